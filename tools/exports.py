@@ -8,6 +8,8 @@ import re
 import sys
 from collections.abc import Iterator
 
+# Crates that are parts of another one, which alone calls what they export: their contracts are inner ones.
+INNER = {"dds_ends": "dds_core"}
 # A name that the root brings out of a module, or several, over one line or more.
 USE = re.compile(r"^pub use (?:\w+::)*(?:\{([^}]*)\}|(\w+))(?: as (\w+))?;", re.M)
 MODULE = re.compile(r"^pub mod (\w+);", re.M)

@@ -7,7 +7,7 @@ use Rattle.dds_base.specs.declared.code.Code.{Code}
 use Rattle.dds_base.specs.declared.code.Code.TheVariants.{Ok}
 use Rattle.dds_conditions.specs.Filtered.{tests_of}
 use Rattle.dds_core.specs.Listening.{Steps}
-use Rattle.dds_core.specs.Sending.{AreMessages}
+use Rattle.dds_ends.specs.Sending.{AreMessages}
 use Rattle.dds_protocol.specs.declared.event.Event.{Event}
 use Rattle.dds_machine.specs.declared.reply.Reply.{Reply}
 use Rattle.dds_machine.specs.declared.reply.Reply.TheVariants.{Refused}

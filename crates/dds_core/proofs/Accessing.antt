@@ -37,24 +37,26 @@ use Rattle.dds_protocol.specs.Peer.{Peer}
 use Rattle.dds_machine.specs.Watching.{Test, Tests, condition_refusal, condition_selection, filter_of, test_of}
 use Rattle.dds_core.specs.Accesses.{access_call, condition_call}
 use Rattle.dds_core.specs.declared.watching.Asked.{Asked}
-use Rattle.dds_core.specs.declared.matching.WriterName.{WriterName}
+use Rattle.dds_ends.specs.declared.matching.WriterName.{WriterName}
 use Rattle.rtps_reader.specs.Reader.{Proxies, Tracks, how_at}
 use Rattle.rtps_reader.specs.Tracked.{Tracked}
 use Rattle.dds_lease.specs.Standing.{Kept as Leased, StandsFor as LeasesStandFor}
-use Rattle.dds_core.specs.Stored.{StoreKept}
-use Rattle.dds_core.specs.Storing.{Holds}
+use Rattle.dds_ends.specs.Stored.{StoreKept}
+use Rattle.dds_ends.specs.Storing.{Holds}
 use Rattle.dds_base.specs.declared.endpoint.Endpoint.{Endpoint}
-use Rattle.dds_core.proofs.Rows.{writers_of}
-use Rattle.dds_core.specs.declared.match_counts.MatchCounts.{MatchCounts}
-use Rattle.dds_core.specs.MatchCounts.{CountsFor}
-use Rattle.dds_core.specs.Kept.{ReaderKept, PeerKept}
-use Rattle.dds_core.specs.Looking.{TakesOnly, access_reply}
-use Rattle.dds_core.specs.Standing.{IsFirstRow, ReaderStands, StandsFor, stood_as}
+use Rattle.dds_ends.proofs.Rows.{writers_of}
+use Rattle.dds_ends.specs.declared.match_counts.MatchCounts.{MatchCounts}
+use Rattle.dds_ends.specs.MatchCounts.{CountsFor}
+use Rattle.dds_ends.specs.Kept.{ReaderKept}
+use Rattle.dds_core.specs.Kept.{PeerKept}
+use Rattle.dds_ends.specs.Looking.{TakesOnly, access_reply}
+use Rattle.dds_ends.specs.Standing.{IsFirstRow, ReaderStands, stood_as}
+use Rattle.dds_core.specs.Standing.{StandsFor}
 use Rattle.dds_core.proofs.CallSteps.{FollowsBy, follows_as, knows_still, refused_call, still_stands, there_is}
 use Rattle.dds_core.proofs.Ends.{with_reader, own_reader_changed}
 use Rattle.dds_core.proofs.Taking.{silent}
-use Rattle.dds_core.proofs.Identities.{same_identity}
-use Rattle.dds_core.proofs.Lists.{set_back}
+use Rattle.dds_ends.proofs.Identities.{same_identity}
+use Rattle.dds_ends.proofs.Lists.{set_back}
 
 -- what happens at a reader where an access was entered: nothing was passed over, and no writer asserted or died
 pub record IsQuiet (entry : List SamplePosition → Happening) : Type 0 where

@@ -16,9 +16,10 @@ use Rattle.dds_machine.specs.Numbered.{has_element}
 use Rattle.dds_machine.specs.Calls.{handle_at}
 use Rattle.dds_machine.specs.Part.{Part, own_reader}
 use Rattle.dds_protocol.specs.Peer.{Peer}
-use Rattle.dds_core.specs.Kept.{ReaderKept, PeerKept}
+use Rattle.dds_ends.specs.Kept.{ReaderKept}
+use Rattle.dds_core.specs.Kept.{PeerKept}
 use Rattle.dds_core.specs.Standing.{StandsFor}
-use Rattle.dds_core.specs.Storing.{Holds}
+use Rattle.dds_ends.specs.Storing.{Holds}
 use Rattle.dds_core.proofs.CallSteps.{Follows, answered_as, unchanging_call, there_is}
 use Rattle.dds_core.proofs.Taking.{silent}
 

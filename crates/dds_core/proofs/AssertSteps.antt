@@ -21,15 +21,16 @@ use Rattle.dds_protocol.specs.Contact.{Contact}
 use Rattle.dds_protocol.specs.DueMessages.{Due, AreSent, assertions_due, heartbeats_for}
 use Rattle.dds_protocol.proofs.DuesAssertions.{assertions_true}
 use Rattle.dds_protocol.proofs.Rosters.{configs_are_rosters}
-use Rattle.dds_core.specs.Beating.{HasNoCount, TellsOf, assertions_of}
-use Rattle.dds_core.specs.Kept.{WriterKept, PeerKept}
+use Rattle.dds_ends.specs.Beating.{HasNoCount, TellsOf, assertions_of}
+use Rattle.dds_ends.specs.Kept.{WriterKept}
+use Rattle.dds_core.specs.Kept.{PeerKept}
 use Rattle.dds_core.specs.Standing.{StandsFor}
-use Rattle.dds_core.specs.Stepping.{Enters}
-use Rattle.dds_core.proofs.Begins.{EndsAlike, ends_alike}
+use Rattle.dds_ends.specs.Stepping.{Enters}
+use Rattle.dds_ends.proofs.Begins.{EndsAlike, ends_alike}
 use Rattle.dds_core.proofs.BeatsDue.{IsNamed, all_named, named, named_reader, part_of, sent_are_due, sent_true}
 use Rattle.dds_core.proofs.CallSteps.{Follows, answered_as, number_is, refused_as, refused_call, there_is}
 use Rattle.dds_core.proofs.Ends.{with_writer, entered_at, own_writer_stepped, unchanged_with}
-use Rattle.dds_core.proofs.MatchedAt.{named_there}
+use Rattle.dds_ends.proofs.MatchedAt.{named_there}
 use Rattle.dds_core.proofs.Taking.{silent}
 use Rattle.dds_core.proofs.Tellable.{tellable_entered}
 

@@ -31,20 +31,21 @@ use Rattle.dds_protocol.proofs.DuesMatched.{reader_entity_is}
 use Rattle.dds_protocol.proofs.Growth.{TickStep-acknowledged, TickStep-grows}
 use Rattle.dds_protocol.proofs.Rosters.{configs_are_rosters}
 use Rattle.dds_machine.proofs.Tables.{no_less_same}
-use Rattle.dds_core.specs.declared.heartbeat.Beat.{Beat}
-use Rattle.dds_core.specs.declared.matching.Destination.{Destination}
-use Rattle.dds_core.specs.declared.matching.ReaderName.{ReaderName}
-use Rattle.dds_core.specs.Beating.{BeatsOfAll, beat_of, beats_at, beats_message, beats_of, beats_of_all, due_to, ends_for, names_told, peers_told}
-use Rattle.dds_core.specs.Kept.{WriterKept, PeerKept}
-use Rattle.dds_core.specs.Identity.{WriterIdentity, writer_identity}
-use Rattle.dds_core.specs.MatchedEnds.{AreMatchedNow, IsNameOf, IsReliableName, is_named, readers_of}
+use Rattle.dds_ends.specs.declared.heartbeat.Beat.{Beat}
+use Rattle.dds_ends.specs.declared.matching.Destination.{Destination}
+use Rattle.dds_ends.specs.declared.matching.ReaderName.{ReaderName}
+use Rattle.dds_ends.specs.Beating.{BeatsOfAll, beat_of, beats_at, beats_message, beats_of, beats_of_all, due_to, ends_for, names_told, peers_told}
+use Rattle.dds_ends.specs.Kept.{WriterKept}
+use Rattle.dds_core.specs.Kept.{PeerKept}
+use Rattle.dds_ends.specs.Identity.{WriterIdentity, writer_identity}
+use Rattle.dds_ends.specs.MatchedEnds.{AreMatchedNow, IsNameOf, IsReliableName, is_named, readers_of}
 use Rattle.dds_core.specs.Standing.{StandsFor}
 use Rattle.dds_core.proofs.Names.{configured}
-use Rattle.dds_core.proofs.Begins.{EndsAlike, ends_alike}
-use Rattle.dds_core.proofs.FirstPeers.{first_peers_are, map-filter_by, peer_from}
-use Rattle.dds_core.proofs.MatchedAt.{named_there}
-use Rattle.dds_core.proofs.PeersTold.{names_are}
-use Rattle.dds_core.proofs.Sent.{contains_cases}
+use Rattle.dds_ends.proofs.Begins.{EndsAlike, ends_alike}
+use Rattle.dds_ends.proofs.FirstPeers.{first_peers_are, map-filter_by, peer_from}
+use Rattle.dds_ends.proofs.MatchedAt.{named_there}
+use Rattle.dds_ends.proofs.PeersTold.{names_are}
+use Rattle.dds_ends.proofs.SentMessages.{contains_cases}
 use Rattle.dds_core.proofs.Taking.{numbered_prefix, prefix_is}
 
 -- ---- what is sent of true messages is true

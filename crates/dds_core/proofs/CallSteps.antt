@@ -31,22 +31,25 @@ use Rattle.dds_protocol.specs.Peer.{Knows, Peer, PeerStep, known_after}
 use Rattle.dds_protocol.specs.Contact.{Contact}
 use Rattle.dds_protocol.specs.Protocol.{asked_no_more}
 use Rattle.dds_machine.specs.Watching.{Tests}
-use Rattle.dds_core.specs.Kept.{WriterKept, ReaderKept, PeerKept}
-use Rattle.dds_core.specs.Identity.{WriterIdentity, ReaderIdentity, identity_of, reader_identity, writer_identity, IsPeerOf}
-use Rattle.dds_core.specs.Expiring.{AllExpire, HasPastCounting}
+use Rattle.dds_ends.specs.Kept.{WriterKept, ReaderKept}
+use Rattle.dds_core.specs.Kept.{PeerKept}
+use Rattle.dds_ends.specs.Identity.{WriterIdentity, ReaderIdentity, reader_identity, writer_identity}
+use Rattle.dds_core.specs.Identity.{identity_of, IsPeerOf}
+use Rattle.dds_ends.specs.Expiring.{AllExpire, HasPastCounting}
 use Rattle.dds_core.specs.Making.{IsMade, IsNotMade, entered}
 use Rattle.dds_core.specs.Sending.{SendsFor, SendsNothing}
-use Rattle.dds_core.specs.Standing.{IsShort, WriterStands, StandsFor}
-use Rattle.dds_core.specs.Stepping.{Enters, AllTick}
-use Rattle.dds_core.specs.Beating.{BeatsOfAll}
+use Rattle.dds_ends.specs.Standing.{IsShort, WriterStands}
+use Rattle.dds_core.specs.Standing.{StandsFor}
+use Rattle.dds_ends.specs.Stepping.{Enters, AllTick}
+use Rattle.dds_ends.specs.Beating.{BeatsOfAll}
 use Rattle.dds_core.proofs.BeatsDue.{due_true}
-use Rattle.dds_core.proofs.Dying.{expired_names, peer_past_counting, readers_expired}
-use Rattle.dds_core.proofs.Lists.{get-within}
+use Rattle.dds_ends.proofs.Dying.{expired_names, peer_past_counting, readers_expired}
+use Rattle.dds_ends.proofs.Lists.{get-within}
 use Rattle.dds_core.proofs.Limited.{value_limited}
 use Rattle.dds_core.proofs.Ends.{with_writer, entered_at, own_writer_stepped, unchanged_with}
 use Rattle.dds_core.proofs.Taking.{silent}
 use Rattle.dds_core.proofs.Tellable.{tellable_entered, tellable_ticked}
-use Rattle.dds_core.proofs.Ticking.{same_names, writers_ticked}
+use Rattle.dds_ends.proofs.Ticking.{same_names, writers_ticked}
 
 pub silent_sends : (reply : Reply) → SendsNothing (silent reply)
 silent_sends reply = record { packets = refl; unsent = refl }

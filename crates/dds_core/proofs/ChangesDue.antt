@@ -11,11 +11,11 @@ use Rattle.dds_protocol.specs.declared.event.Packet.{Packet}
 use Rattle.dds_machine.specs.Part.{Writer}
 use Rattle.dds_protocol.specs.DueMessages.{Due, AreSent, change_message, changes_due, writer_entity}
 use Rattle.dds_protocol.specs.Receipt.{prefix_of}
-use Rattle.dds_core.specs.declared.matching.Destination.{Destination}
-use Rattle.dds_core.specs.declared.sending.Sender.{Sender}
-use Rattle.dds_core.specs.Beating.{due_to}
-use Rattle.dds_core.specs.Kept.{WriterKept}
-use Rattle.dds_core.specs.Announcing.{announcement, AreAnnouncements}
+use Rattle.dds_ends.specs.declared.matching.Destination.{Destination}
+use Rattle.dds_ends.specs.declared.sending.Sender.{Sender}
+use Rattle.dds_ends.specs.Beating.{due_to}
+use Rattle.dds_ends.specs.Kept.{WriterKept}
+use Rattle.dds_ends.specs.Announcing.{announcement, AreAnnouncements}
 use Rattle.dds_core.proofs.BeatsDue.{IsNamed, all_named, by_number, sends_to}
 
 -- a packet is what it is addressed to and its bytes

@@ -17,12 +17,15 @@ use Rattle.dds_base.specs.declared.endpoint.Endpoint.{Endpoint}
 use Rattle.dds_protocol.specs.Claims.{Receiver, receiver_of, after_submessage}
 use Rattle.dds_protocol.specs.Peer.{Peer}
 use Rattle.dds_core.specs.declared.observing.Observed.{Observed}
-use Rattle.dds_core.specs.Kept.{ReaderKept, PeerKept}
+use Rattle.dds_ends.specs.Kept.{ReaderKept}
+use Rattle.dds_core.specs.Kept.{PeerKept}
 use Rattle.dds_core.specs.Observing.{Sums, Counts, Observes, OldAt, OldData, OldHeartbeats, ToNobody, one_where}
-use Rattle.dds_core.specs.ObservingKept.{CountsOld, IsOldAtRow, ObservesBody, ObservesAll, ObservesFrame, ObservesSubmessage, OldToReaders, SumsBody, ToNobodyOf}
-use Rattle.dds_core.specs.Readiness.{IsNamedFor, NamedBy, writer_guid}
+use Rattle.dds_ends.specs.ObservingKept.{IsOldAtRow}
+use Rattle.dds_core.specs.ObservingKept.{CountsOld, ObservesBody, ObservesAll, ObservesFrame, ObservesSubmessage, OldToReaders, SumsBody, ToNobodyOf}
+use Rattle.dds_ends.specs.Readiness.{IsNamedFor, NamedBy, writer_guid}
 use Rattle.dds_core.specs.Standing.{StandsFor}
-use Rattle.dds_core.proofs.Named.{first_row, is_to, names_one, row_of_writer}
+use Rattle.dds_ends.proofs.Named.{names_one}
+use Rattle.dds_core.proofs.Named.{first_row, is_to, row_of_writer}
 use Rattle.dds_core.proofs.Taking.{prefix_is}
 
 -- ---- the readers of a peer

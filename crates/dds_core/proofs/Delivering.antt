@@ -8,7 +8,7 @@ use Rattle.dds_protocol.specs.Peer.{Peer, state_of}
 use Rattle.dds_protocol.proofs.DuesPackets.{packet_truthful}
 use Rattle.dds_protocol.proofs.RuledPackets.{takes_packet}
 use Rattle.dds_protocol.proofs.Rosters.{configs_are_rosters}
-use Rattle.dds_core.specs.declared.sending.Announced.{Announced}
+use Rattle.dds_ends.specs.declared.sending.Announced.{Announced}
 use Rattle.dds_core.specs.Kept.{PeerKept}
 use Rattle.dds_core.specs.Receiving.{with_state, ReceivedPacket, ReceivesPacket}
 use Rattle.dds_core.specs.Stepping.{SoundSteps}

@@ -24,7 +24,7 @@ use Rattle.dds_machine.specs.Watching.{Tests}
 use Rattle.dds_protocol.proofs.OpenedPeers.{opens_known}
 use Rattle.dds_protocol.proofs.AtEnds.{end_rows, end_untold, end_watch}
 use Rattle.dds_protocol.proofs.FiltersKept.{keeps_listeners, opens_nobody}
-use Rattle.dds_core.specs.declared.marks.Marks.{Marks}
+use Rattle.dds_ends.specs.declared.marks.Marks.{Marks}
 use Rattle.dds_core.specs.Filtering.{FilteredKept, StandsFor as FilteredStandsFor}
 use Rattle.dds_core.specs.FilteredSteps.{Adds as FilteredAdds, RefusesFilter as FilteredRefuses, Steps as FilteredSteps}
 use Rattle.dds_core.specs.Kept.{PeerKept}
@@ -32,7 +32,7 @@ use Rattle.dds_core.specs.Listening.{Adds, CoreKept, RefusesFilter, RefusesListe
 use Rattle.dds_core.specs.Noticing.{AreMarksOf, MarksPeer, Tells}
 use Rattle.dds_core.specs.Opening.{opening_peer}
 use Rattle.dds_core.specs.Ruling.{IsSound}
-use Rattle.dds_core.proofs.Lists.{past_end}
+use Rattle.dds_ends.proofs.Lists.{past_end}
 use Rattle.dds_core.proofs.Notified.{listeners_apart, tells_as, tells_then}
 
 module _ {L : Type 0} (notices : L → List Notice) (capacity : L → ℕ) (becomes : L → Notice → L → Type 0) where

@@ -14,13 +14,16 @@ use Rattle.rtps_reader.specs.Tracked.{Tracked}
 use Rattle.rtps_reader.specs.Reader.{Tracks}
 use Rattle.rtps_writer.specs.Standing.{StandsFor as RtpsStandsFor}
 use Rattle.rtps_writer.specs.WriterState.{WriterState}
-use Rattle.dds_core.specs.Kept.{WriterKept, ReaderKept, PeerKept}
-use Rattle.dds_core.specs.Identity.{Identity, WriterIdentity, ReaderIdentity, writer_identity, reader_identity, identity_of, IsPeerOf}
+use Rattle.dds_ends.specs.Kept.{WriterKept, ReaderKept}
+use Rattle.dds_core.specs.Kept.{PeerKept}
+use Rattle.dds_ends.specs.Identity.{WriterIdentity, ReaderIdentity, writer_identity, reader_identity}
+use Rattle.dds_core.specs.Identity.{Identity, identity_of, IsPeerOf}
 use Rattle.dds_core.specs.Receiving.{with_state}
-use Rattle.dds_core.specs.Standing.{WriterStands, WritersStand, ReaderStands, StandsFor, state_of}
-use Rattle.dds_core.specs.Stepping.{Enters}
-use Rattle.dds_core.proofs.Acknowledging.{state_as}
-use Rattle.dds_core.proofs.Lists.{each_set_at, map-set_same, set_back}
+use Rattle.dds_ends.specs.Standing.{WriterStands, WritersStand, ReaderStands, state_of}
+use Rattle.dds_core.specs.Standing.{StandsFor}
+use Rattle.dds_ends.specs.Stepping.{Enters}
+use Rattle.dds_ends.proofs.Acknowledging.{state_as}
+use Rattle.dds_ends.proofs.Lists.{each_set_at, map-set_same, set_back}
 
 -- what is kept, with another writer or reader of this index
 

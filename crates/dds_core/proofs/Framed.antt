@@ -9,7 +9,7 @@ use Rattle.rtps_wire.specs.Submessages.{Reads}
 use Rattle.dds_protocol.specs.Claims.{Receiver, after_submessage}
 use Rattle.dds_core.specs.declared.effects.Effects.{Effects}
 use Rattle.dds_core.specs.Kept.{PeerKept}
-use Rattle.dds_core.specs.Readiness.{NamesNobody}
+use Rattle.dds_ends.specs.Readiness.{NamesNobody}
 use Rattle.dds_core.specs.Receiving.{FrameNeedsMemory, NeedsMemory, TakesFrame, TakesOneMore}
 use Rattle.dds_core.proofs.Taking.{readers_take}
 use Rattle.dds_core.proofs.Turns.{nobody_told}

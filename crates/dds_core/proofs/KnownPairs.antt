@@ -14,14 +14,15 @@ use Rattle.dds_protocol.specs.Receipt.{prefix_of}
 use Rattle.dds_protocol.proofs.DuesMatched.{own_name}
 use Rattle.dds_protocol.proofs.PairAsked.{has_writer}
 use Rattle.dds_protocol.proofs.PairNamed.{PairOf}
-use Rattle.dds_core.specs.declared.matching.ReaderName.{ReaderName}
-use Rattle.dds_core.specs.Kept.{PeerKept, WriterKept}
-use Rattle.dds_core.specs.MatchedEnds.{IsReliableName}
+use Rattle.dds_ends.specs.declared.matching.ReaderName.{ReaderName}
+use Rattle.dds_ends.specs.Kept.{WriterKept}
+use Rattle.dds_core.specs.Kept.{PeerKept}
+use Rattle.dds_ends.specs.MatchedEnds.{IsReliableName}
 use Rattle.dds_core.specs.Standing.{StandsFor}
 use Rattle.dds_core.proofs.BeatsDue.{part_of}
-use Rattle.dds_core.proofs.Lists.{element, get-map}
+use Rattle.dds_ends.proofs.Lists.{element, get-map}
 use Rattle.dds_core.proofs.Names.{configured}
-use Rattle.dds_core.proofs.Numbered.{same_end}
+use Rattle.dds_ends.proofs.Numbered.{same_end}
 use Rattle.dds_core.proofs.Taking.{numbered_prefix}
 
 abbrev reader_of : ReaderProxy → Endpoint

@@ -7,12 +7,15 @@ use Rattle.rtps_wire.specs.declared.submessage.Submessage.{Submessage}
 use Rattle.dds_protocol.specs.Claims.{Receiver}
 use Rattle.dds_core.specs.declared.delivery.FirstNamed.{FirstNamed}
 use Rattle.dds_core.specs.declared.effects.Effects.{Effects}
-use Rattle.dds_core.specs.declared.reader_told.Ready.{Ready}
-use Rattle.dds_core.specs.Kept.{ReaderKept, PeerKept}
-use Rattle.dds_core.specs.Readiness.{AreReady, IsAlike, IsFirstNamed, IsPrepared, IsReadyFor}
+use Rattle.dds_ends.specs.declared.reader_told.Ready.{Ready}
+use Rattle.dds_ends.specs.Kept.{ReaderKept}
+use Rattle.dds_core.specs.Kept.{PeerKept}
+use Rattle.dds_ends.specs.Readiness.{IsAlike, IsPrepared, IsReadyFor}
+use Rattle.dds_core.specs.Readiness.{AreReady, IsFirstNamed}
 use Rattle.dds_core.specs.Receiving.{TakesAll, TakesAt, StandsAsWell, only_last}
 use Rattle.dds_core.proofs.TakenSoFar.{TakesSome}
-use Rattle.dds_core.proofs.Ready.{all_alike_self, alike_core, alike_more, named_here, ready_for, set-cases, takes_all}
+use Rattle.dds_ends.proofs.Alike.{set-cases}
+use Rattle.dds_core.proofs.Ready.{all_alike_self, alike_core, alike_more, named_here, ready_for, takes_all}
 use Rattle.dds_core.proofs.Turns.{takes_none, takes_skip, takes_more}
 
 last_count : (index : ℕ) (one : Option Ready) → length (only_last index one) ≡ index + 1

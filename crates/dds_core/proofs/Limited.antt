@@ -13,7 +13,8 @@ use Rattle.dds_base.specs.declared.config.ReaderConfig.{ReaderConfig}
 use Rattle.dds_base.specs.Bounds.{max_ends, max_peers}
 use Rattle.dds_base.specs.Checked.{check_refusal, entity_count, has_bad_parameter, has_kind, has_no_depth, is_bad_lease, is_bad_peer, is_bad_reader, is_bad_writer, is_maximum, prefix_count, same_prefix, unknown_prefix}
 use Rattle.dds_core.specs.Identity.{IsPeerOf, identity_of}
-use Rattle.dds_core.specs.Kept.{PeerKept, WriterKept}
+use Rattle.dds_ends.specs.Kept.{WriterKept}
+use Rattle.dds_core.specs.Kept.{PeerKept}
 use Rattle.dds_core.proofs.Names.{configured}
 
 or_left : (a b : Bool) → (a || b) ≡ false → a ≡ false

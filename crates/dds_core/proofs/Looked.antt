@@ -1,11 +1,10 @@
 -- A look at a status of one of the peer's readers.
-use Rattle.std.proofs.Common.{◌≡◌, ℕ, suc, ◌+◌, ◌<◌, ◌==◌, Bool, true, false, not, Some, None, length, slice_get, eqb-true, refl, ap, sym, ◌∙◌, subst, arith}
+use Rattle.std.proofs.Common.{◌≡◌, ℕ, suc, ◌+◌, ◌<◌, Bool, not, Some, None, length, slice_get, refl, ap, sym, ◌∙◌, subst, arith}
 use Rattle.std.specs.Prelude.{if◌then◌else◌}
 use Rattle.dds_base.specs.declared.code.Code.TheVariants.{BadParameter}
 use Rattle.dds_base.specs.declared.config.Config.{Config}
 use Rattle.dds_base.specs.declared.qos.ReaderQos.{ReaderQos}
 use Rattle.dds_base.specs.declared.status.LivelinessChangedStatus.{LivelinessChangedStatus}
-use Rattle.dds_base.specs.declared.status.MatchedStatus.{MatchedStatus}
 use Rattle.dds_base.specs.declared.status.SampleLostStatus.{SampleLostStatus}
 use Rattle.dds_base.specs.Liveliness.{alive_count, not_alive_count, liveliness_changed_status}
 use Rattle.dds_base.specs.Statuses.{lost_count, sample_lost_status}
@@ -17,17 +16,11 @@ use Rattle.dds_machine.specs.declared.reply.Reply.TheVariants.{SampleLost, Livel
 use Rattle.dds_machine.specs.Refusals.{reader_refusal}
 use Rattle.dds_machine.specs.Calls.{Answers, after_look, effect, effect_of, liveliness_at, lost_at, nothing, seen_lost, seen_liveliness}
 use Rattle.dds_conditions.specs.NoFilters.{no_filters}
-use Rattle.dds_machine.specs.Matching.{attached_count, seen_matches, subscription_matched}
-use Rattle.dds_machine.specs.Noticing.{subscription_raised}
-use Rattle.dds_machine.specs.Part.{Matches, Reader, Seen, own_reader}
-use Rattle.dds_notices.specs.declared.notice.Status.TheVariants.{SubscriptionMatched}
+use Rattle.dds_machine.specs.Part.{Reader, Seen, own_reader}
 use Rattle.dds_protocol.specs.Peer.{Peer}
-use Rattle.dds_core.specs.declared.marks.ReaderMark.{ReaderMark}
-use Rattle.dds_core.specs.declared.match_counts.MatchCounts.{MatchCounts}
-use Rattle.dds_core.specs.Kept.{ReaderKept, PeerKept}
-use Rattle.dds_core.specs.MatchCounts.{CountsFor}
-use Rattle.dds_core.specs.Noticing.{RaisesSo}
-use Rattle.dds_core.specs.Looking.{SeesMatches, TellsLost, TellsLiveliness, TellsMatches}
+use Rattle.dds_ends.specs.Kept.{ReaderKept}
+use Rattle.dds_core.specs.Kept.{PeerKept}
+use Rattle.dds_ends.specs.Looking.{TellsLost, TellsLiveliness}
 use Rattle.dds_core.specs.Standing.{StandsFor}
 use Rattle.dds_core.proofs.CallSteps.{Follows, answered_as, knows_still, there_is, number_is}
 use Rattle.dds_core.proofs.Ends.{with_reader, own_reader_changed}
@@ -142,38 +135,3 @@ looked_at_liveliness kept reader i k k' status seen config peer s is lt at tells
     (event.Call (call.GetLivelinessChanged reader)) (silent (LivelinessChanged status))) now
     (subst (λ (n : ℕ). Follows (with_reader kept i (record k { seen = seen_liveliness r })) config peer
     (event.Call (call.GetLivelinessChanged n)) (silent (LivelinessChanged status))) (number_is reader i is) look)
-
--- ---- matches
-
--- a reader whose matches were looked at
-pub sees_kept : (kept : ReaderKept) (matches : MatchCounts)
-    → ((m : Matches) → CountsFor kept.matches m → CountsFor matches (seen_matches m kept.here))
-    → SeesMatches kept (record kept { matches = matches })
-sees_kept kept matches seen = record {
-  same = refl;
-  stands = λ proxies r tracked s. record {
-    writers_are = s.writers_are;
-    places = s.places;
-    knows = s.knows;
-    qos_is = s.qos_is;
-    holds = s.holds;
-    seen_is = s.seen_is;
-    hows = s.hows;
-    counts = subst (λ (n : ℕ). CountsFor matches (seen_matches r.matches n)) s.here_is (seen r.matches s.counts);
-    here_is = s.here_is;
-  };
-}
-
--- it is matched with more or fewer than at this mark
-pub raises_matches : (kept : ReaderKept) (mark : ReaderMark) (status : MatchedStatus) → TellsMatches kept status
-    → (kept.here ≡ mark.here → ⊥)
-    → RaisesSo (λ known was rows r. subscription_raised known rows r) kept mark (Some (SubscriptionMatched status))
-raises_matches kept mark status tells other known before marked proxies r tracked s =
-    ap (λ (v : MatchedStatus). Some (SubscriptionMatched v)) (tells proxies r tracked s)
-    ∙ by (attached_count proxies == attached_count known) refl
-  where
-    by : (b : Bool) → (attached_count proxies == attached_count known) ≡ b
-        → Some (SubscriptionMatched (subscription_matched proxies r))
-        ≡ (if b then None else Some (SubscriptionMatched (subscription_matched proxies r)))
-    by true e = absurd (other (s.here_is ∙ (eqb-true (attached_count proxies) (attached_count known) e ∙ sym marked.here)))
-    by false e = refl

@@ -28,21 +28,24 @@ use Rattle.dds_protocol.specs.DueMessages.{AreSent, changes_due}
 use Rattle.dds_protocol.proofs.OwnGuids.{one_writer}
 use Rattle.dds_protocol.specs.Contact.{Contact}
 use Rattle.dds_protocol.proofs.Rosters.{configs_are_rosters}
-use Rattle.dds_core.specs.declared.matching.Destination.{Destination}
-use Rattle.dds_core.specs.declared.sending.Sender.{Sender}
-use Rattle.dds_core.specs.Kept.{WriterKept, PeerKept}
-use Rattle.dds_core.specs.Identity.{WriterIdentity, writer_identity, identity_of, IsPeerOf, IsWriterOf}
+use Rattle.dds_ends.specs.declared.matching.Destination.{Destination}
+use Rattle.dds_ends.specs.declared.sending.Sender.{Sender}
+use Rattle.dds_ends.specs.Kept.{WriterKept}
+use Rattle.dds_core.specs.Kept.{PeerKept}
+use Rattle.dds_ends.specs.Identity.{WriterIdentity, writer_identity, IsWriterOf}
+use Rattle.dds_core.specs.Identity.{identity_of, IsPeerOf}
 use Rattle.dds_core.specs.Making.{IsMade, IsNotMade, IsValueOf, entered}
-use Rattle.dds_core.specs.MatchedEnds.{AreMatchedNow}
+use Rattle.dds_ends.specs.MatchedEnds.{AreMatchedNow}
 use Rattle.dds_core.specs.Sending.{SendsChange}
-use Rattle.dds_core.specs.Announcing.{AreAnnouncements}
-use Rattle.dds_core.specs.Standing.{WriterStands, StandsFor}
-use Rattle.dds_core.specs.Stepping.{Enters}
+use Rattle.dds_ends.specs.Announcing.{AreAnnouncements}
+use Rattle.dds_ends.specs.Standing.{WriterStands}
+use Rattle.dds_core.specs.Standing.{StandsFor}
+use Rattle.dds_ends.specs.Stepping.{Enters}
 use Rattle.dds_core.proofs.BeatsDue.{IsNamed, named, named_again}
 use Rattle.dds_core.proofs.ChangesDue.{change_sent}
 use Rattle.dds_core.proofs.Ends.{with_writer, own_writer_stepped, unchanged_with}
 use Rattle.dds_core.proofs.Tellable.{tellable_entered}
-use Rattle.dds_core.proofs.Lists.{get-within}
+use Rattle.dds_ends.proofs.Lists.{get-within}
 use Rattle.dds_core.proofs.Names.{configured}
 use Rattle.dds_core.proofs.Sent.{IsOnly, IsThere, sends_change, sent_true}
 

@@ -22,17 +22,19 @@ use Rattle.dds_machine.specs.Numbered.{HasNumber, numbered}
 use Rattle.dds_machine.specs.Part.{Away, Reader, WriterProxy, how_of, is_attached, own_proxies, own_reader, publication_among, row_of}
 use Rattle.dds_machine.specs.Refusals.{reader_refusal}
 use Rattle.dds_machine.proofs.Tables.{number_there}
-use Rattle.dds_core.specs.declared.matching.WriterName.{WriterName}
-use Rattle.dds_core.specs.Identity.{reader_identity}
-use Rattle.dds_core.specs.Kept.{PeerKept, ReaderKept}
-use Rattle.dds_core.specs.Looking.{SeesMatches, TellsMatches}
-use Rattle.dds_core.specs.Parting.{Attaches, Detaches, IsPastParting}
-use Rattle.dds_core.specs.Standing.{IsFirstRow, ReaderStands, StandsFor}
+use Rattle.dds_ends.specs.declared.matching.WriterName.{WriterName}
+use Rattle.dds_ends.specs.Identity.{reader_identity}
+use Rattle.dds_ends.specs.Kept.{ReaderKept}
+use Rattle.dds_core.specs.Kept.{PeerKept}
+use Rattle.dds_ends.specs.Looking.{SeesMatches, TellsMatches}
+use Rattle.dds_ends.specs.Parting.{Attaches, Detaches, IsPastParting}
+use Rattle.dds_ends.specs.Standing.{IsFirstRow, ReaderStands}
+use Rattle.dds_core.specs.Standing.{StandsFor}
 use Rattle.dds_core.proofs.CallSteps.{Follows, answered_as, number_is, refused_call, there_is}
 use Rattle.dds_core.proofs.Ends.{own_reader_changed, own_reader_stepped, with_read, with_reader}
-use Rattle.dds_core.proofs.Lists.{get-map, get-within, set_back}
-use Rattle.dds_core.proofs.Parting.{IsMatchedSo, first_among, known_there}
-use Rattle.dds_core.proofs.Rows.{handle_is, no_row, proxied, writers_of}
+use Rattle.dds_ends.proofs.Lists.{get-map, get-within, set_back}
+use Rattle.dds_ends.proofs.Parting.{IsMatchedSo, first_among, known_there}
+use Rattle.dds_ends.proofs.Rows.{handle_is, no_row, proxied, writers_of}
 use Rattle.dds_core.proofs.Taking.{silent}
 
 -- ---- why it is refused

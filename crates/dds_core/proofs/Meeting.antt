@@ -33,13 +33,15 @@ use Rattle.dds_protocol.specs.Peer.{state_of}
 use Rattle.dds_protocol.specs.Protocol.{Asserting, BeginsIf, BeginsWith, Goes, GoesBy, HearsAlone, MeetsChange, MeetsGap, MeetsHeartbeat, Starts, State, TakesHeartbeat, heard_as, with_tracked}
 use Rattle.dds_protocol.specs.Resuming.{GoesAgain}
 use Rattle.dds_protocol.proofs.Ways.{jumps_gone}
-use Rattle.dds_core.specs.Kept.{ReaderKept}
-use Rattle.dds_core.specs.Readiness.{SameReader, begins_at, begun_moves, moves_of, seen_in}
+use Rattle.dds_ends.specs.Kept.{ReaderKept}
+use Rattle.dds_ends.specs.Readiness.{SameReader, seen_in}
+use Rattle.dds_core.specs.Readiness.{begins_at, begun_moves, moves_of}
 use Rattle.dds_core.specs.Receiving.{with_state}
-use Rattle.dds_core.specs.Standing.{StandsFor, stood_as}
-use Rattle.dds_core.specs.Storing.{Holds}
+use Rattle.dds_ends.specs.Standing.{stood_as}
+use Rattle.dds_core.specs.Standing.{StandsFor}
+use Rattle.dds_ends.specs.Storing.{Holds}
 use Rattle.dds_core.proofs.Ends.{with_reader}
-use Rattle.dds_core.proofs.Rows.{handle_is}
+use Rattle.dds_ends.proofs.Rows.{handle_is}
 use Rattle.dds_core.proofs.Takes.{Telling, Stage, known_of, proxies_of, reader_of, stood, stands_first, match_is, stage_ends, at_first, reader_is, heard_asserts, heard_after_is, heard_happened, heard_moves, heard_rows, heard_stage, heard_state, started_state, starts_at, started, gone_state, place_moves, goes_by, gone, noted}
 
 -- the reader of a telling has done this step, and nothing of other writers has changed

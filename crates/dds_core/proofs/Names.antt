@@ -11,14 +11,16 @@ use Rattle.dds_base.specs.declared.guid.GuidPrefix.{GuidPrefix}
 use Rattle.dds_base.specs.Matched.{any_writer, is_reliable_reader, of_matched_ends}
 use Rattle.dds_base.specs.declared.endpoint.Endpoint.{Endpoint}
 use Rattle.dds_protocol.specs.Claims.{IsNumbered}
-use Rattle.dds_core.specs.declared.matching.ReaderName.{ReaderName}
-use Rattle.dds_core.specs.declared.matching.WriterName.{WriterName}
-use Rattle.dds_core.specs.Kept.{WriterKept, ReaderKept, PeerKept}
-use Rattle.dds_core.specs.Identity.{ReaderIdentity, writer_identity, reader_identity, reliable_in, configured_reader, identity_of, IsPeerOf, IsWriterOf}
-use Rattle.dds_core.specs.MatchedEnds.{IsNameOf}
-use Rattle.dds_core.specs.EndNames.{writer_name, writer_names}
-use Rattle.dds_core.proofs.Lists.{element, get-map, get-within, map-get}
-use Rattle.dds_core.proofs.Numbered.{is_told, same_end}
+use Rattle.dds_ends.specs.declared.matching.ReaderName.{ReaderName}
+use Rattle.dds_ends.specs.declared.matching.WriterName.{WriterName}
+use Rattle.dds_ends.specs.Kept.{WriterKept, ReaderKept}
+use Rattle.dds_core.specs.Kept.{PeerKept}
+use Rattle.dds_ends.specs.Identity.{ReaderIdentity, writer_identity, reader_identity, reliable_in, configured_reader, IsWriterOf}
+use Rattle.dds_core.specs.Identity.{identity_of, IsPeerOf}
+use Rattle.dds_ends.specs.MatchedEnds.{IsNameOf}
+use Rattle.dds_ends.specs.EndNames.{writer_name, writer_names}
+use Rattle.dds_ends.proofs.Lists.{element, get-map, get-within, map-get}
+use Rattle.dds_ends.proofs.Numbered.{is_told, same_end}
 
 -- an end of the topic has this number, and this GUID
 pub record IsEndNamed {E : Type 0} (ends : PeerConfig → List E) (topic_of : E → ℕ) (entity_of : E → EntityId)

@@ -14,14 +14,16 @@ use Rattle.rtps_reader.specs.Tracked.{fresh}
 use Rattle.dds_protocol.specs.Contact.{no_contact}
 use Rattle.dds_protocol.specs.Protocol.{knows_nothing}
 use Rattle.dds_protocol.specs.Peer.{Peer, no_peer}
-use Rattle.dds_core.specs.Kept.{WriterKept, ReaderKept}
-use Rattle.dds_core.specs.Identity.{WriterIdentity, writer_identity, reader_identity, configured_writer, configured_reader, IsWriterOf}
+use Rattle.dds_ends.specs.Kept.{WriterKept, ReaderKept}
+use Rattle.dds_ends.specs.Identity.{WriterIdentity, writer_identity, reader_identity, configured_writer, configured_reader, IsWriterOf}
 use Rattle.dds_core.specs.Opening.{opening_peer}
-use Rattle.dds_core.specs.OpeningEnds.{OpensWriter, OpensReader, OpensEach, OpensCore}
-use Rattle.dds_core.specs.Standing.{WriterStands, ReaderStands, WritersStand, ReadersStand, StandsFor}
-use Rattle.dds_core.proofs.Lists.{get-map}
-use Rattle.dds_core.proofs.MatchedAt.{ends_opened}
-use Rattle.dds_core.proofs.Ready.{last-cases, partner}
+use Rattle.dds_ends.specs.OpeningEnds.{OpensWriter, OpensReader}
+use Rattle.dds_core.specs.OpeningEnds.{OpensEach, OpensCore}
+use Rattle.dds_ends.specs.Standing.{WriterStands, ReaderStands, WritersStand, ReadersStand}
+use Rattle.dds_core.specs.Standing.{StandsFor}
+use Rattle.dds_ends.proofs.Lists.{get-map}
+use Rattle.dds_ends.proofs.MatchedAt.{ends_opened}
+use Rattle.dds_ends.proofs.Alike.{last-cases, partner}
 use Rattle.dds_core.proofs.Tellable.{tellable_opening}
 
 -- ---- one element more

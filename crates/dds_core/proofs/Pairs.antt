@@ -14,16 +14,18 @@ use Rattle.dds_protocol.specs.DueMessages.{reader_entity, writer_entity}
 use Rattle.dds_machine.proofs.Tables.{same_is}
 use Rattle.dds_protocol.proofs.InOrder.{same_self}
 use Rattle.dds_protocol.specs.Contact.{Contact}
-use Rattle.dds_core.specs.declared.matching.ReaderName.{ReaderName}
-use Rattle.dds_core.specs.declared.matching.WriterName.{WriterName}
+use Rattle.dds_ends.specs.declared.matching.ReaderName.{ReaderName}
+use Rattle.dds_ends.specs.declared.matching.WriterName.{WriterName}
 use Rattle.dds_core.specs.declared.pairing.Pair.{Pair}
-use Rattle.dds_core.specs.Kept.{PeerKept, ReaderKept, WriterKept}
+use Rattle.dds_ends.specs.Kept.{ReaderKept, WriterKept}
+use Rattle.dds_core.specs.Kept.{PeerKept}
 use Rattle.dds_core.specs.Pairs.{IsPair}
-use Rattle.dds_core.specs.Readiness.{IsPlaceAt}
-use Rattle.dds_core.specs.Standing.{StandsFor, WriterStands, IsFirstReader, IsFirstRow}
+use Rattle.dds_ends.specs.Readiness.{IsPlaceAt}
+use Rattle.dds_ends.specs.Standing.{WriterStands, IsFirstReader, IsFirstRow}
+use Rattle.dds_core.specs.Standing.{StandsFor}
 use Rattle.dds_core.proofs.BeatsDue.{named_reader, readers_named, writer_named}
-use Rattle.dds_core.proofs.Lists.{get-map, map-get, past_end}
-use Rattle.dds_core.proofs.Rows.{IsFirstOf, is_first_of, no_row, place_there, proxied}
+use Rattle.dds_ends.proofs.Lists.{get-map, map-get, past_end}
+use Rattle.dds_ends.proofs.Rows.{IsFirstOf, is_first_of, no_row, place_there, proxied}
 
 -- rows of matched readers
 

@@ -20,13 +20,16 @@ use Rattle.dds_protocol.specs.declared.event.Event.TheVariants as event
 use Rattle.dds_protocol.specs.Peer.{Peer}
 use Rattle.dds_protocol.specs.Contact.{Contact}
 use Rattle.dds_protocol.specs.Protocol.{Known, with_answered}
-use Rattle.dds_core.specs.Coming.{Joins, Leaves, LooksAtMatches, RefusesSo, joining_refusal, leaving_refusal, matched_anew}
-use Rattle.dds_core.specs.Identity.{IsPeerOf, IsWriterOf, WriterIdentity, identity_of, writer_identity}
-use Rattle.dds_core.specs.Kept.{PeerKept, WriterKept}
-use Rattle.dds_core.specs.Standing.{StandsFor, WriterStands}
+use Rattle.dds_ends.specs.Coming.{Joins, Leaves, LooksAtMatches, RefusesSo, joining_refusal, leaving_refusal, matched_anew}
+use Rattle.dds_ends.specs.Identity.{IsWriterOf, WriterIdentity, writer_identity}
+use Rattle.dds_core.specs.Identity.{IsPeerOf, identity_of}
+use Rattle.dds_ends.specs.Kept.{WriterKept}
+use Rattle.dds_core.specs.Kept.{PeerKept}
+use Rattle.dds_ends.specs.Standing.{WriterStands}
+use Rattle.dds_core.specs.Standing.{StandsFor}
 use Rattle.dds_core.proofs.CallSteps.{Follows, answered_as, number_is, refused_call, there_is}
 use Rattle.dds_core.proofs.Ends.{own_writer_put, unchanged_with, with_writer, writer_put, writer_stands_on}
-use Rattle.dds_core.proofs.Lists.{get-map, map-get}
+use Rattle.dds_ends.proofs.Lists.{get-map, map-get}
 use Rattle.dds_core.proofs.Taking.{silent}
 use Rattle.dds_core.proofs.Tellable.{tellable_put}
 

@@ -2,11 +2,9 @@
 use Rattle.std.proofs.Common.{◌≡◌, ◌⊎◌, ℕ, zero, suc, ◌+◌, ◌<◌, ◌≤◌, Bool, List, [], ◌∷◌, ◌++◌, Option, Some, None, IfSome, set, drop, map, length, slice_get, get_or, refl, ap, sym, ◌∙◌, subst, arith, inl, inr, ⊎_elim, length-set}
 use Rattle.std.proofs.lemmas.Option.{same_Some, slice_get-get_or, get_or_from_slice_get}
 use Rattle.dds_base.specs.declared.guid.GuidPrefix.{GuidPrefix}
-use Rattle.dds_base.specs.declared.happening.Happening.{Happening}
-use Rattle.dds_cache.specs.Standing.{qos_of}
 use Rattle.dds_base.specs.declared.guid.EntityId.{EntityId}
 use Rattle.rtps_reader.specs.Tracked.{Tracked}
-use Rattle.rtps_reader.specs.Reader.{Proxies, Tracks, AllStay, AllStand}
+use Rattle.rtps_reader.specs.Reader.{Tracks}
 use Rattle.rtps_reader.specs.declared.attachment.Attachment.{Attachment as AttachmentOf}
 use Rattle.rtps_reader.specs.declared.step.HeartbeatSeen.{HeartbeatSeen}
 use Rattle.rtps_wire.specs.declared.submessage.Submessage.{Submessage}
@@ -21,46 +19,30 @@ use Rattle.dds_base.specs.declared.qos.ReaderQos.{ReaderQos}
 use Rattle.dds_base.specs.Matched.{is_reliable}
 use Rattle.dds_machine.specs.Part.{WriterProxy, Reader}
 use Rattle.dds_core.specs.declared.delivery.FirstNamed.{FirstNamed}
-use Rattle.dds_core.specs.declared.matching.WriterName.{WriterName}
-use Rattle.dds_core.specs.declared.reader_told.Ready.{Ready}
-use Rattle.dds_core.specs.declared.reader_told.Told.{Told}
-use Rattle.dds_core.specs.declared.reader_told.Told.TheVariants as told
-use Rattle.dds_core.specs.declared.match_counts.MatchCounts.{MatchCounts}
-use Rattle.dds_core.specs.MatchCounts.{CountsFor}
-use Rattle.dds_core.specs.Kept.{ReaderKept, PeerKept}
-use Rattle.dds_core.specs.Identity.{ReaderIdentity, Identity, reader_identity, reliable_in, writer_identity, IsPeerOf}
-use Rattle.dds_core.specs.Readiness.{IsNamedAt, IsFirstName, IsRowOf, IsFirstNamed, IsPrepared, IsReadyFor, IsReadyWith, AreReady, IsAlike, AreAlike, CanTake, TakesTold, SameReader, moves_of, IsBounded, IsToldBounded, IsToldBy, writer_guid}
+use Rattle.dds_ends.specs.declared.matching.WriterName.{WriterName}
+use Rattle.dds_ends.specs.declared.reader_told.Ready.{Ready}
+use Rattle.dds_ends.specs.declared.reader_told.Told.{Told}
+use Rattle.dds_ends.specs.declared.reader_told.Told.TheVariants as told
+use Rattle.dds_ends.specs.declared.match_counts.MatchCounts.{MatchCounts}
+use Rattle.dds_ends.specs.MatchCounts.{CountsFor}
+use Rattle.dds_ends.specs.Kept.{ReaderKept}
+use Rattle.dds_core.specs.Kept.{PeerKept}
+use Rattle.dds_ends.specs.Identity.{ReaderIdentity, reader_identity, reliable_in, writer_identity}
+use Rattle.dds_core.specs.Identity.{Identity, IsPeerOf}
+use Rattle.dds_ends.specs.Readiness.{IsNamedAt, IsFirstName, IsRowOf, IsPrepared, IsReadyFor, IsReadyWith, IsAlike, CanTake, TakesTold, SameReader, IsToldBounded, IsToldBy, writer_guid}
+use Rattle.dds_core.specs.Readiness.{IsFirstNamed, AreReady, AreAlike, moves_of, IsBounded}
 use Rattle.dds_core.specs.Receiving.{AllCanTake, TookAt, TakesAll, ReadersTake, StandsAsWell}
 use Rattle.dds_core.proofs.TakenSoFar.{TakesSome}
-use Rattle.dds_core.specs.Standing.{IsFirstRow, ReaderStands, stood_as}
-use Rattle.dds_core.specs.Stored.{StoreKept}
-use Rattle.dds_core.specs.Storing.{Holds}
-use Rattle.dds_core.proofs.Identities.{same_identity}
-use Rattle.dds_core.proofs.Lists.{get-within, left_at, left_more, drop_set}
-use Rattle.dds_core.proofs.Rows.{writers_of}
+use Rattle.dds_ends.specs.Standing.{IsFirstRow, ReaderStands, stood_as}
+use Rattle.dds_ends.proofs.Identities.{same_identity}
+use Rattle.dds_ends.proofs.Lists.{get-within, left_at, left_more, drop_set}
+use Rattle.dds_ends.proofs.Rows.{writers_of}
 use Rattle.dds_base.specs.declared.guid.EntityId.{EntityId}
 use Rattle.dds_core.specs.declared.effects.Effects.{Effects}
-use Rattle.dds_core.specs.declared.sending.Announced.{Announced}
-use Rattle.dds_core.specs.Beating.{AddsTo}
+use Rattle.dds_ends.specs.declared.sending.Announced.{Announced}
+use Rattle.dds_ends.specs.Beating.{AddsTo}
 use Rattle.dds_protocol.specs.DueMessages.{acknacks_due}
-
--- after a change of one element, another is as before, and that one is the new one
-pub set-cases : {X : Type 0} (xs : List X) (i : ℕ) (x : X) (j : ℕ) (y : X) → slice_get (set xs i x) j ≡ Some y
-    → ((j ≡ i) × (x ≡ y)) ⊎ (((j ≡ i) → ⊥) × (slice_get xs j ≡ Some y))
-set-cases [] i x j y at = absurd cc
-set-cases (a ∷ xs) zero x zero y at = inl (refl, same_Some x y at)
-set-cases (a ∷ xs) zero x (suc j) y at = inr (λ e. omega (arith, e), at)
-set-cases (a ∷ xs) (suc i) x zero y at = inr (λ e. omega (arith, e), at)
-set-cases (a ∷ xs) (suc i) x (suc j) y at =
-    ⊎_elim (λ s. inl (ap suc s.0, s.1)) (λ o. inr (λ e. o.0 (omega (arith, e)), o.1)) (set-cases xs i x j y at)
-
-pub last-cases : {X : Type 0} (xs : List X) (x : X) (j : ℕ) (y : X) → slice_get (xs ++ x ∷ []) j ≡ Some y
-    → ((j ≡ length xs) × (x ≡ y)) ⊎ ((j < length xs) × (slice_get xs j ≡ Some y))
-last-cases [] x zero y at = inl (refl, same_Some x y at)
-last-cases [] x (suc j) y at = absurd cc
-last-cases (a ∷ xs) x zero y at = inr (omega arith, at)
-last-cases (a ∷ xs) x (suc j) y at =
-    ⊎_elim (λ s. inl (ap suc s.0, s.1)) (λ o. let lt = o.0 in inr (omega (arith, lt), o.1)) (last-cases xs x j y at)
+use Rattle.dds_ends.proofs.Alike.{set-cases, last-cases, partner}
 
 pub alike_self : (k : ReaderKept) → IsAlike k k
 alike_self k = record {
@@ -74,25 +56,6 @@ alike_self k = record {
   here = refl;
   holds = λ h s. s;
 }
-
--- the reader that is open has more memory in what it knows and in what it holds
-pub alike_as : {inside old : ReaderKept} {reader : Proxies} {store : StoreKept} → inside ≡ old
-    → AllStay inside.reader reader → AllStand inside.reader reader → qos_of store.cache ≡ qos_of inside.store.cache
-    → ((h : List Happening) → Holds inside.store h → Holds store h)
-    → IsAlike old (record inside { reader = reader; store = store })
-alike_as {inside} {reader = reader} {store} view same how qos holds =
-    subst (λ (k : ReaderKept). IsAlike k (record inside { reader = reader; store = store })) view
-    (record {
-      entity = refl;
-      writers = refl;
-      reader = same;
-      how = how;
-      qos = qos;
-      seen = refl;
-      matches = refl;
-      here = refl;
-      holds = holds;
-    })
 
 pub all_alike_self : (ks : List ReaderKept) → AreAlike ks ks
 all_alike_self ks =
@@ -247,15 +210,6 @@ told_bounded reliable at (Heartbeat h) (told.Heartbeat seen) b is =
 told_bounded reliable at (Heartbeat h) (told.Beat seen) b is =
     let same = ap (λ (x : HeartbeatSeen). x.first) is.1 in omega (arith, same)
 told_bounded reliable at s said b is = absurd is
-
--- the element of the same index
-pub partner : {X Y : Type 0} (xs : List X) (ys : List Y) (i : ℕ) (y : Y) → length ys ≡ length xs
-    → slice_get ys i ≡ Some y → (x : X) × (slice_get xs i ≡ Some x)
-partner [] [] i y count at = absurd cc
-partner [] (b ∷ ys) i y count at = absurd (omega (arith, count))
-partner (a ∷ xs) [] i y count at = absurd cc
-partner (a ∷ xs) (b ∷ ys) zero y count at = (a, refl)
-partner (a ∷ xs) (b ∷ ys) (suc i) y count at = partner xs ys i y (omega (arith, count)) at
 
 pub can_take : (own : GuidPrefix) (at : Receiver) (s : Submessage) (k : ReaderKept) (ready : Ready) → IsBounded s
     → IsReadyWith own at s k ready → CanTake k ready

@@ -29,11 +29,13 @@ use Rattle.dds_protocol.specs.Noticing.{peer_at_end, peer_with_place}
 use Rattle.dds_protocol.specs.Peer.{Peer}
 use Rattle.dds_protocol.proofs.GoesOn.{GoesOn, each_goes_on, end_goes_on, longer, no_more}
 use Rattle.dds_core.specs.declared.misses.Miss.{Miss}
-use Rattle.dds_core.specs.Kept.{PeerKept, ReaderKept}
+use Rattle.dds_ends.specs.Kept.{ReaderKept}
+use Rattle.dds_core.specs.Kept.{PeerKept}
 use Rattle.dds_core.specs.Listening.{Adds, CoreKept, Sets, StandsFor as CoreStandsFor, Steps}
 use Rattle.dds_core.specs.Remembering.{AddsMiss, AreMisses, IsMiss, Remembers}
 use Rattle.dds_core.specs.Ruling.{IsSound}
-use Rattle.dds_core.specs.Standing.{ReaderStands, StandsFor}
+use Rattle.dds_ends.specs.Standing.{ReaderStands}
+use Rattle.dds_core.specs.Standing.{StandsFor}
 
 -- ---- lists of them
 

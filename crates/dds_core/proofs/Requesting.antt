@@ -18,22 +18,24 @@ use Rattle.dds_protocol.specs.DueMessages.{Due}
 use Rattle.dds_protocol.specs.Protocol.{State, InTurn, WriterTakes}
 use Rattle.dds_protocol.proofs.OwnGuids.{one_writer}
 use Rattle.dds_protocol.proofs.Rosters.{configs_are_rosters}
-use Rattle.dds_core.specs.declared.answering.Room.{Room}
-use Rattle.dds_core.specs.declared.matching.ReaderName.{ReaderName}
+use Rattle.dds_ends.specs.declared.answering.Room.{Room}
+use Rattle.dds_ends.specs.declared.matching.ReaderName.{ReaderName}
 use Rattle.dds_core.specs.declared.effects.Effects.{Effects}
-use Rattle.dds_core.specs.declared.sending.Announced.{Announced}
+use Rattle.dds_ends.specs.declared.sending.Announced.{Announced}
 use Rattle.rtps_writer.specs.Standing.{StandsFor as RtpsStandsFor}
 use Rattle.rtps_writer.specs.WriterState.{WriterState}
-use Rattle.dds_core.specs.Answering.{AsksNone, IsRoom, AreRooms, TakesAckNack, HaveRoom, RowTook, RowsTook, TakesAllRows, TakesRow, TakesRows, acknack_moves, is_beyond}
-use Rattle.dds_core.specs.Kept.{WriterKept, PeerKept}
-use Rattle.dds_core.specs.Identity.{WriterIdentity, writer_identity}
+use Rattle.dds_ends.specs.Answering.{IsRoom, AreRooms, TakesAckNack, acknack_moves, is_beyond}
+use Rattle.dds_core.specs.Answering.{AsksNone, HaveRoom, RowTook, RowsTook, TakesAllRows, TakesRow, TakesRows}
+use Rattle.dds_ends.specs.Kept.{WriterKept}
+use Rattle.dds_core.specs.Kept.{PeerKept}
+use Rattle.dds_ends.specs.Identity.{WriterIdentity, writer_identity}
 use Rattle.dds_core.specs.Moved.{MovesKept}
 use Rattle.dds_core.specs.Receiving.{with_state, TakesOneMore}
 use Rattle.dds_core.specs.Standing.{StandsFor}
-use Rattle.dds_core.proofs.Beating.{adds_none, adds_on}
-use Rattle.dds_core.proofs.Lists.{element, get-within}
+use Rattle.dds_ends.proofs.Beating.{adds_none, adds_on}
+use Rattle.dds_ends.proofs.Lists.{element, get-within}
 use Rattle.dds_core.proofs.Makes.{set_get}
-use Rattle.dds_core.proofs.Ready.{partner}
+use Rattle.dds_ends.proofs.Alike.{partner}
 use Rattle.dds_core.proofs.RowsAnswered.{IsAtRow, IsOwn, RowAnswered, own_end, own_is, row_answered, row_idle, row_unasked, row_at}
 use Rattle.dds_core.proofs.Turns.{number_at, turn_idle, turn_more}
 

@@ -19,22 +19,26 @@ use Rattle.dds_protocol.specs.Peer.{Peer, state_of}
 use Rattle.dds_protocol.specs.Protocol.{State, stands_to}
 use Rattle.dds_protocol.specs.Resuming.{GoAgain, GoesAgain, MayGoAgain}
 use Rattle.dds_core.specs.declared.effects.Effects.{Effects}
-use Rattle.dds_core.specs.declared.matching.WriterName.{WriterName}
-use Rattle.dds_core.specs.declared.sending.Announced.{Announced}
-use Rattle.dds_core.specs.Kept.{ReaderKept, PeerKept}
-use Rattle.dds_core.specs.Readiness.{HasMemory, IsAlike, moves_of}
+use Rattle.dds_ends.specs.declared.matching.WriterName.{WriterName}
+use Rattle.dds_ends.specs.declared.sending.Announced.{Announced}
+use Rattle.dds_ends.specs.Kept.{ReaderKept}
+use Rattle.dds_core.specs.Kept.{PeerKept}
+use Rattle.dds_ends.specs.Readiness.{HasMemory, IsAlike}
+use Rattle.dds_core.specs.Readiness.{moves_of}
 use Rattle.dds_core.specs.Receiving.{CanTakeAt, StandsAsWell, TakesAt, TookAt, with_state}
-use Rattle.dds_core.specs.Resuming.{GoesOnAt, HasRow, ResumesAll, RowNeedsMemory, SameRows, Tried, TriesRow, again}
-use Rattle.dds_core.specs.Standing.{IsFirstRow, StandsFor, stood_as}
+use Rattle.dds_ends.specs.Resuming.{GoesOnAt}
+use Rattle.dds_core.specs.Resuming.{HasRow, ResumesAll, RowNeedsMemory, SameRows, Tried, TriesRow, again}
+use Rattle.dds_ends.specs.Standing.{IsFirstRow, stood_as}
+use Rattle.dds_core.specs.Standing.{StandsFor}
 use Rattle.dds_core.proofs.Ends.{with_reader}
-use Rattle.dds_core.proofs.Once.{writers_once}
-use Rattle.dds_core.proofs.Idle.{idle_step, waits_still}
+use Rattle.dds_ends.proofs.Once.{writers_once}
+use Rattle.dds_ends.proofs.Idle.{idle_step, waits_still}
 use Rattle.dds_core.proofs.LastReader.{here_now}
-use Rattle.dds_core.proofs.Lists.{drop_end, drop_next, element, get-map, get-within, map-get, set_back}
+use Rattle.dds_ends.proofs.Lists.{drop_end, drop_next, element, get-map, get-within, map-get, set_back}
 use Rattle.dds_core.proofs.Makes.{set_get}
 use Rattle.dds_core.proofs.Meeting.{Met, again_met, moves_at, told_match}
 use Rattle.dds_core.proofs.Names.{own_reader_is}
-use Rattle.dds_core.proofs.Rows.{proxied, writers_of}
+use Rattle.dds_ends.proofs.Rows.{proxied, writers_of}
 use Rattle.dds_core.proofs.Taking.{stands_again}
 use Rattle.dds_core.proofs.Takes.{Telling, known_of, reader_of, stands_here, stood}
 use Rattle.dds_core.proofs.Turns.{idle_moves, rested}

@@ -28,27 +28,30 @@ use Rattle.dds_protocol.specs.Contact.{Contact}
 use Rattle.dds_protocol.specs.Protocol.{State, Known, IsStranger, SaysStranger, WriterTakes, AreGrouped, answers_per, TakesAckNack as TakesByRules, acknowledging, answered_from, asks_for_heartbeat, contact_after, has_for, is_taken_up, with_answered}
 use Rattle.dds_protocol.proofs.Framing.{with_same}
 use Rattle.dds_protocol.proofs.InOrder.{same_self}
-use Rattle.dds_core.specs.declared.answering.Answering.{Answering}
-use Rattle.dds_core.specs.declared.matching.ReaderName.{ReaderName}
-use Rattle.dds_core.specs.declared.match_counts.MatchCounts.{MatchCounts}
-use Rattle.dds_core.specs.declared.sending.Announced.{Announced}
-use Rattle.dds_core.specs.Answering.{IsFrom, IsAskedWriter, IsUnaskedAt, RowTook, SendsAnswers, TookAckNack, acknack_moves, acknowledged_moves, after_hearing, answer_due, heard_if, is_beyond}
-use Rattle.dds_core.specs.Beating.{AddsTo, due_to}
-use Rattle.dds_core.specs.Kept.{WriterKept, PeerKept}
-use Rattle.dds_core.specs.Identity.{WriterIdentity}
-use Rattle.dds_core.specs.MatchCounts.{CountsFor}
-use Rattle.dds_core.specs.MatchedEnds.{AreRows, is_named, last_count, readers_of, topic_reader}
+use Rattle.dds_ends.specs.declared.answering.Answering.{Answering}
+use Rattle.dds_ends.specs.declared.matching.ReaderName.{ReaderName}
+use Rattle.dds_ends.specs.declared.match_counts.MatchCounts.{MatchCounts}
+use Rattle.dds_ends.specs.declared.sending.Announced.{Announced}
+use Rattle.dds_ends.specs.Answering.{IsFrom, IsUnaskedAt, SendsAnswers, TookAckNack, acknack_moves, acknowledged_moves, after_hearing, answer_due, heard_if, is_beyond}
+use Rattle.dds_core.specs.Answering.{IsAskedWriter, RowTook}
+use Rattle.dds_ends.specs.Beating.{AddsTo, due_to}
+use Rattle.dds_ends.specs.Kept.{WriterKept}
+use Rattle.dds_core.specs.Kept.{PeerKept}
+use Rattle.dds_ends.specs.Identity.{WriterIdentity}
+use Rattle.dds_ends.specs.MatchCounts.{CountsFor}
+use Rattle.dds_ends.specs.MatchedEnds.{AreRows, is_named, last_count, readers_of, topic_reader}
 use Rattle.dds_core.specs.Receiving.{with_state, NeedsMemory}
-use Rattle.dds_core.specs.Standing.{AreQuiet, StandsFor, WriterStands, state_of}
-use Rattle.dds_core.proofs.Acknowledging.{IsOnly, IsCounted, only_row, acknowledged_is, acknowledged_then, answered_then, applied_is, low_of, owed_same, moves_then, not_same, readers_same, state_applied, still_begun}
-use Rattle.dds_core.proofs.Beating.{adds_none}
+use Rattle.dds_ends.specs.Standing.{AreQuiet, WriterStands, state_of}
+use Rattle.dds_core.specs.Standing.{StandsFor}
+use Rattle.dds_ends.proofs.Acknowledging.{IsOnly, IsCounted, only_row, acknowledged_is, acknowledged_then, answered_then, applied_is, low_of, owed_same, moves_then, not_same, readers_same, state_applied, still_begun}
+use Rattle.dds_ends.proofs.Beating.{adds_none}
 use Rattle.dds_core.proofs.Ends.{with_writer, writer_put}
-use Rattle.dds_core.proofs.Lists.{get-map, map-get}
-use Rattle.dds_core.proofs.MatchedAt.{not_named, once_at}
+use Rattle.dds_ends.proofs.Lists.{get-map, map-get}
+use Rattle.dds_ends.proofs.MatchedAt.{not_named, once_at}
 use Rattle.dds_core.proofs.Makes.{IsOwnWriter, own_writer_is}
 use Rattle.dds_core.proofs.Names.{IsReaderNamed, name_is}
-use Rattle.dds_core.proofs.Numbered.{same_end}
-use Rattle.dds_core.proofs.Once.{Once}
+use Rattle.dds_ends.proofs.Numbered.{same_end}
+use Rattle.dds_ends.proofs.Once.{Once}
 use Rattle.dds_core.proofs.Tellable.{tellable_put}
 
 -- ---- whom an ACKNACK is from, by the configuration

@@ -1,5 +1,5 @@
--- What is sent: it claims the change to each matched reader, and nothing but the truth.
-use Rattle.std.proofs.Common.{◌≡◌, ◌≢◌, ◌⊎◌, ℕ, zero, suc, ◌+◌, ◌-◌, ◌^◌, ◌<◌, Bool, true, false, ◌||◌, List, [], ◌∷◌, Some, map, length, slice_get, refl, ap, sym, ◌∙◌, subst, arith, inl, inr, ⊎_elim, Contains, ◌==◌, eq-eqb}
+-- What is sent claims the change to each matched reader, and nothing but the truth.
+use Rattle.std.proofs.Common.{◌≡◌, ◌≢◌, ℕ, zero, suc, ◌+◌, ◌-◌, ◌^◌, ◌<◌, Bool, true, false, ◌||◌, List, [], ◌∷◌, Some, map, length, slice_get, refl, ap, sym, ◌∙◌, subst, arith, inl, inr, Contains, ◌==◌, eq-eqb}
 use Rattle.std.specs.Prelude.{nat_lt, nat_eq, if◌then◌else◌, AllPairs}
 use Rattle.std.specs.List.{AllByRecursion}
 use Rattle.std.proofs.lemmas.Bool.Decides.{nat_tests, Decides-eqb}
@@ -19,8 +19,6 @@ use Rattle.rtps_wire.specs.declared.message.Message.{Message}
 use Rattle.rtps_wire.specs.declared.submessage.Submessage.{Submessage}
 use Rattle.rtps_wire.specs.declared.submessage.Submessage.TheVariants.{InfoDst, InfoTs, Data}
 use Rattle.rtps_wire.specs.Content.{change_in}
-use Rattle.rtps_wire.specs.Messages.{ReadsMessage, HasSubmessage, spelling_of}
-use Rattle.rtps_wire.proofs.SpellingLaws.{message_again}
 use Rattle.dds_base.specs.declared.endpoint.Endpoint.{Endpoint}
 use Rattle.dds_protocol.specs.declared.event.Packet.{Packet}
 use Rattle.dds_protocol.specs.declared.event.Output.{Output}
@@ -30,15 +28,16 @@ use Rattle.dds_protocol.specs.Peer.{IsTrueAt}
 use Rattle.dds_protocol.proofs.PeersOf.{has}
 use Rattle.dds_protocol.proofs.Dues.{stands_in, told, dst_says, ts_says}
 use Rattle.dds_protocol.specs.DueMessages.{AreSent, changes_due}
-use Rattle.dds_core.specs.declared.matching.Destination.{Destination}
-use Rattle.dds_core.specs.declared.matching.ReaderName.{ReaderName}
-use Rattle.dds_core.specs.declared.sending.Sender.{Sender}
-use Rattle.dds_core.specs.MatchedEnds.{AreMatchedNow, IsNameOf, IsPeer, IsReaderOf, readers_of}
-use Rattle.dds_core.proofs.Destinations.{at_some}
-use Rattle.dds_core.proofs.FirstPeers.{Differ, peers_differ}
-use Rattle.dds_core.proofs.Lists.{get-map}
-use Rattle.dds_core.specs.Sending.{AreMessages, SendsChange}
-use Rattle.dds_core.specs.Announcing.{announcement, IsAnnouncement, AreAnnouncements}
+use Rattle.dds_ends.specs.declared.matching.Destination.{Destination}
+use Rattle.dds_ends.specs.declared.matching.ReaderName.{ReaderName}
+use Rattle.dds_ends.specs.declared.sending.Sender.{Sender}
+use Rattle.dds_ends.specs.MatchedEnds.{AreMatchedNow, IsNameOf, IsPeer, IsReaderOf, readers_of}
+use Rattle.dds_ends.proofs.Destinations.{at_some}
+use Rattle.dds_ends.proofs.FirstPeers.{Differ, peers_differ}
+use Rattle.dds_ends.proofs.Lists.{get-map}
+use Rattle.dds_core.specs.Sending.{SendsChange}
+use Rattle.dds_ends.specs.Announcing.{announcement, IsAnnouncement, AreAnnouncements}
+use Rattle.dds_ends.proofs.SentMessages.{target}
 
 abbrev data_of : Sender → ℕ → DataContent → Submessage
 data_of sender number content =
@@ -190,55 +189,7 @@ announces config sender to own reader topic number content packet from there of 
       says = (speaks, refl, ap (λ (t : ℕ). change_in content t) (sym (early_is sender.moment early)));
     }
 
--- the announcement is a message with a submessage
-is_message : (sender : Sender) (to : Destination) (number : ℕ) (content : DataContent) (packet : Packet)
-    → IsAnnouncement sender to number content packet → HasSubmessage packet.bytes
-is_message sender to number content packet is =
-    let m : Message = announcement sender to number content in
-    let r : ReadsMessage (spelling_of m) m (length (spelling_of m)) = message_again m is.writable in
-    let f = r.submessages in
-    subst (λ (b : List ℕ). HasSubmessage b) (sym is.bytes)
-    (record {
-      source = m.prefix;
-      body = r.body;
-      header = r.header;
-      first = (f.1.0, f.1.1, f.1.2, f.0, f.1.3);
-    })
-
 -- ---- the packets to all destinations
-
--- a destination that the packet announces the change to
-record Target (sender : Sender) (number : ℕ) (content : DataContent) (ds : List Destination)
-    (packet : Packet) : Type 0 where
-  index : ℕ
-  to : Destination
-  at : slice_get ds index ≡ Some to
-  is : IsAnnouncement sender to number content packet
-
-pub contains_cases : {X : Type 0} (x : X) (xs : List X) (y : X) → Contains (x ∷ xs) y → (x ≡ y) ⊎ Contains xs y
-contains_cases x xs y (zero, lt, is) = inl is
-contains_cases x xs y (suc k, lt, is) = inr (k, omega (arith, lt), is)
-
-later : {sender : Sender} {number : ℕ} {content : DataContent} {packet : Packet} (d : Destination)
-    (ds : List Destination) → Target sender number content ds packet → Target sender number content (d ∷ ds) packet
-later d ds t = record { index = suc t.index; to = t.to; at = t.at; is = t.is }
-
-target : (sender : Sender) (number : ℕ) (content : DataContent) (ds : List Destination) (ps : List Packet)
-    → AreAnnouncements sender number content ds ps → (packet : Packet) → Contains ps packet
-    → Target sender number content ds packet
-target sender number content ds [] h packet among = let lt = among.1 in absurd (omega (arith, lt))
-target sender number content [] (p ∷ ps) h packet among = absurd h
-target sender number content (d ∷ ds) (p ∷ ps) (inl f) packet among =
-    ⊎_elim (λ same. record {
-      index = zero;
-      to = d;
-      at = refl;
-      is = subst
-          (λ (x : Packet). IsAnnouncement sender d number content x) same f.0;
-    })
-    (λ rest. later d ds (target sender number content ds ps f.1 packet rest)) (contains_cases p ps packet among)
-target sender number content (d ∷ ds) (p ∷ ps) (inr g) packet among =
-    later d ds (target sender number content ds (p ∷ ps) g packet among)
 
 neither : (a b : Bool) → (a || b) ≡ false → (a ≡ false) × (b ≡ false)
 neither true b h = absurd cc
@@ -330,9 +281,3 @@ pub sent_true : (config : Config) (sender : Sender) (own : Endpoint) (part : Par
 sent_true config sender own part ds number content packets only early there are packet claim among h =
     let t = target sender number content ds packets are packet among in
     announcement_true config sender t.to own part number content packet claim only early there t.is h
-
--- and is a message
-pub sent_messages : (sender : Sender) (number : ℕ) (c : DataContent) (ds : List Destination) (packets : List Packet)
-    → AreAnnouncements sender number c ds packets → AreMessages packets
-sent_messages sender number c ds packets are packet among =
-    let t = target sender number c ds packets are packet among in is_message sender t.to number c packet t.is

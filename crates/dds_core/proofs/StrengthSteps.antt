@@ -14,9 +14,11 @@ use Rattle.dds_machine.specs.Refusals.{strength_refusal}
 use Rattle.dds_protocol.specs.declared.event.Event.TheVariants as event
 use Rattle.dds_protocol.specs.Peer.{Peer}
 use Rattle.dds_protocol.specs.Contact.{Contact}
-use Rattle.dds_core.specs.Kept.{WriterKept, PeerKept}
-use Rattle.dds_core.specs.Standing.{WriterStands, StandsFor}
-use Rattle.dds_core.specs.Stepping.{Enters}
+use Rattle.dds_ends.specs.Kept.{WriterKept}
+use Rattle.dds_core.specs.Kept.{PeerKept}
+use Rattle.dds_ends.specs.Standing.{WriterStands}
+use Rattle.dds_core.specs.Standing.{StandsFor}
+use Rattle.dds_ends.specs.Stepping.{Enters}
 use Rattle.dds_core.proofs.Ends.{entered_at, with_writer, own_writer_stepped, unchanged_with}
 use Rattle.dds_core.proofs.Tellable.{tellable_entered}
 use Rattle.dds_core.proofs.Taking.{silent}

@@ -9,8 +9,8 @@ use Rattle.dds_protocol.specs.Peer.{Peer, state_of}
 use Rattle.dds_protocol.specs.DueMessages.{Due, AreSent}
 use Rattle.dds_protocol.specs.Protocol.{State}
 use Rattle.dds_core.specs.declared.effects.Effects.{Effects}
-use Rattle.dds_core.specs.declared.reader_told.Ready.{Ready}
-use Rattle.dds_core.specs.declared.sending.Announced.{Announced}
+use Rattle.dds_ends.specs.declared.reader_told.Ready.{Ready}
+use Rattle.dds_ends.specs.declared.sending.Announced.{Announced}
 use Rattle.dds_core.specs.Kept.{PeerKept}
 use Rattle.dds_core.specs.Standing.{StandsFor}
 use Rattle.dds_core.specs.Readiness.{AreReady}

@@ -26,20 +26,22 @@ use Rattle.dds_protocol.specs.Protocol.{State, GoesBy, Asserting, StartsAt, with
 use Rattle.dds_protocol.proofs.Attached.{how_begun, how_kept}
 use Rattle.dds_protocol.proofs.Framing.{tracked_here, tracked_elsewhere, pair_or_not, with_same}
 use Rattle.dds_machine.proofs.Tables.{numbered-same, begun-cases, begun-hits, place-cases, place-hits, place-heard, row-cases}
-use Rattle.dds_core.specs.declared.matching.WriterName.{WriterName}
-use Rattle.dds_core.specs.declared.match_counts.MatchCounts.{MatchCounts}
-use Rattle.dds_core.specs.MatchCounts.{CountsFor}
-use Rattle.dds_core.specs.Kept.{ReaderKept, PeerKept}
-use Rattle.dds_core.specs.Identity.{reader_identity}
-use Rattle.dds_core.specs.Readiness.{SameReader}
+use Rattle.dds_ends.specs.declared.matching.WriterName.{WriterName}
+use Rattle.dds_ends.specs.declared.match_counts.MatchCounts.{MatchCounts}
+use Rattle.dds_ends.specs.MatchCounts.{CountsFor}
+use Rattle.dds_ends.specs.Kept.{ReaderKept}
+use Rattle.dds_core.specs.Kept.{PeerKept}
+use Rattle.dds_ends.specs.Identity.{reader_identity}
+use Rattle.dds_ends.specs.Readiness.{SameReader}
 use Rattle.dds_core.specs.Receiving.{with_state}
-use Rattle.dds_core.specs.Standing.{IsFirstRow, ReaderStands, StandsFor, stood_as}
-use Rattle.dds_core.specs.Storing.{Holds}
-use Rattle.dds_core.proofs.Attachments.{count_kept, count_set, one_if}
+use Rattle.dds_ends.specs.Standing.{IsFirstRow, ReaderStands, stood_as}
+use Rattle.dds_core.specs.Standing.{StandsFor}
+use Rattle.dds_ends.specs.Storing.{Holds}
+use Rattle.dds_ends.proofs.Attachments.{count_kept, count_set, one_if}
 use Rattle.dds_core.proofs.Ends.{with_reader, with_read, own_reader_stepped}
-use Rattle.dds_core.proofs.Identities.{same_identity}
-use Rattle.dds_core.proofs.Lists.{get-within}
-use Rattle.dds_core.proofs.Rows.{writers_of, proxied, IsFirstOf, is_first_of, one_first, handle_is, place_there, writers_kept}
+use Rattle.dds_ends.proofs.Identities.{same_identity}
+use Rattle.dds_ends.proofs.Lists.{get-within}
+use Rattle.dds_ends.proofs.Rows.{writers_of, proxied, IsFirstOf, is_first_of, one_first, handle_is, place_there, writers_kept}
 
 -- a reader of the peer, which is told something by the writer of one of its rows
 pub record Telling : Type 0 where

@@ -41,13 +41,13 @@ use Rattle.dds_protocol.specs.DueMessages.{Due, AreSent, was_asked}
 use Rattle.dds_protocol.specs.Protocol.{State, InTurn, ReaderTakes, Takes, MayNeedMemory, FollowsMessage}
 use Rattle.dds_protocol.specs.Receipt.{prefix_of}
 use Rattle.dds_core.specs.declared.effects.Effects.{Effects}
-use Rattle.dds_core.specs.declared.sending.Announced.{Announced}
-use Rattle.dds_core.specs.Beating.{AddsTo}
+use Rattle.dds_ends.specs.declared.sending.Announced.{Announced}
+use Rattle.dds_ends.specs.Beating.{AddsTo}
 use Rattle.dds_core.specs.Kept.{PeerKept}
 use Rattle.dds_core.specs.Readiness.{IsBounded}
 use Rattle.dds_core.specs.Receiving.{with_state, StandsAsWell, ReadersTook, TookSubmessage, NeedsMemory, TellsReaders, TakesOneMore, FollowsBody, TookBody, TakesBody, ReceivesPacket}
 use Rattle.dds_core.proofs.TakenSoFar.{TakenTo, TakesTo}
-use Rattle.dds_core.specs.Sending.{AreMessages}
+use Rattle.dds_ends.specs.Sending.{AreMessages}
 use Rattle.dds_core.specs.Standing.{StandsFor}
 use Rattle.dds_core.specs.Ruling.{IsSound}
 use Rattle.dds_core.specs.Stepping.{Sends, Steps, StepsBy, SoundSteps, SoundStepsBy}
@@ -55,7 +55,7 @@ use Rattle.dds_machine.specs.Watching.{Tests}
 use Rattle.dds_protocol.proofs.Contacts.{call_knows, tick_knows}
 use Rattle.dds_protocol.proofs.Growth.{TickStep-rows}
 use Rattle.dds_protocol.proofs.Tellings.{call_backed}
-use Rattle.dds_core.proofs.Beating.{written_on}
+use Rattle.dds_ends.proofs.Beating.{written_on}
 
 -- ---- what a peer is, said again
 

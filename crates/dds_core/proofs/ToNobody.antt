@@ -16,14 +16,15 @@ use Rattle.dds_base.specs.declared.endpoint.Endpoint.{Endpoint}
 use Rattle.dds_machine.specs.Part.{ReaderProxy, Writer, acknowledged_of, no_writer, own_writer}
 use Rattle.dds_protocol.specs.Claims.{Receiver, is_for, IsNumbered, IsToReader, IsToWriter}
 use Rattle.dds_protocol.specs.Peer.{Peer}
-use Rattle.dds_core.specs.declared.matching.ReaderName.{ReaderName}
-use Rattle.dds_core.specs.Identity.{ReaderIdentity, reader_identity, writer_identity, configured_reader}
-use Rattle.dds_core.specs.Kept.{PeerKept, ReaderKept, WriterKept}
+use Rattle.dds_ends.specs.declared.matching.ReaderName.{ReaderName}
+use Rattle.dds_ends.specs.Identity.{ReaderIdentity, reader_identity, writer_identity, configured_reader}
+use Rattle.dds_ends.specs.Kept.{ReaderKept, WriterKept}
+use Rattle.dds_core.specs.Kept.{PeerKept}
 use Rattle.dds_core.specs.Observing.{ConcernsPeer, speaks}
 use Rattle.dds_core.specs.ObservingKept.{IsNamedReader, NamesNoReader, IsNamedWriter, NamesNoWriter, ToNobodyOf}
-use Rattle.dds_core.specs.Readiness.{NamedBy, NamesNobody}
+use Rattle.dds_ends.specs.Readiness.{NamedBy, NamesNobody}
 use Rattle.dds_core.specs.Standing.{StandsFor}
-use Rattle.dds_core.proofs.Lists.{element, get-map, get-within, map-get}
+use Rattle.dds_ends.proofs.Lists.{element, get-map, get-within, map-get}
 use Rattle.dds_core.proofs.Named.{is_to, row_of_writer}
 use Rattle.dds_core.proofs.Pairs.{not_among, some_row}
 use Rattle.dds_core.proofs.RowsAnswered.{IsOwn, own_is, own_end, to_writer, from_reader}

@@ -38,28 +38,31 @@ use Rattle.dds_protocol.specs.Peer.{Peer, state_of}
 use Rattle.dds_protocol.specs.DueMessages.{Due, acknacks_due}
 use Rattle.dds_protocol.specs.Protocol.{State, InTurn, MayNeedMemory, heard_as, ReaderTakes, may_do, MeetsChange, MeetsGap, MeetsHeartbeat, stands_to}
 use Rattle.dds_core.specs.declared.delivery.FirstNamed.{FirstNamed}
-use Rattle.dds_core.specs.declared.matching.WriterName.{WriterName}
+use Rattle.dds_ends.specs.declared.matching.WriterName.{WriterName}
 use Rattle.dds_core.specs.declared.effects.Effects.{Effects}
-use Rattle.dds_core.specs.declared.sending.Announced.{Announced}
-use Rattle.dds_core.specs.declared.reader_told.Ready.{Ready}
-use Rattle.dds_core.specs.declared.reader_told.Told.{Told}
-use Rattle.dds_core.specs.declared.reader_told.Told.TheVariants as told
-use Rattle.dds_core.specs.Identity.{reliable_in}
-use Rattle.dds_core.specs.Kept.{ReaderKept, PeerKept}
+use Rattle.dds_ends.specs.declared.sending.Announced.{Announced}
+use Rattle.dds_ends.specs.declared.reader_told.Ready.{Ready}
+use Rattle.dds_ends.specs.declared.reader_told.Told.{Told}
+use Rattle.dds_ends.specs.declared.reader_told.Told.TheVariants as told
+use Rattle.dds_ends.specs.Identity.{reliable_in}
+use Rattle.dds_ends.specs.Kept.{ReaderKept}
+use Rattle.dds_core.specs.Kept.{PeerKept}
 use Rattle.dds_core.proofs.Names.{own_reader_is}
-use Rattle.dds_core.specs.Readiness.{IsReadyWith, IsReadyFor, IsNamedAt, IsUnnamed, AreReady, IsFirstNamed, NamesNone, NamedBy, IsToldBy, TellsSo, moves_of, seen_in, writer_guid}
-use Rattle.dds_core.proofs.Idle.{idle_step, jumps_nowhere, stays_with}
+use Rattle.dds_ends.specs.Readiness.{IsReadyWith, IsReadyFor, IsNamedAt, IsUnnamed, NamedBy, IsToldBy, TellsSo, seen_in, writer_guid}
+use Rattle.dds_core.specs.Readiness.{AreReady, IsFirstNamed, NamesNone, moves_of}
+use Rattle.dds_ends.proofs.Idle.{idle_step, jumps_nowhere, stays_with}
 use Rattle.dds_base.specs.Places.{Match}
 use Rattle.dds_base.specs.declared.happening.Happening.{Happening}
 use Rattle.dds_core.specs.Moved.{MovesKept}
 use Rattle.dds_core.specs.Receiving.{TakesAt, TookAt, with_state, NeedsMemory, ReadersTook, TakesAll, TellsReaders, StandsAsWell}
 use Rattle.dds_core.proofs.TakenSoFar.{TakesSome}
-use Rattle.dds_core.specs.Beating.{AddsTo}
-use Rattle.dds_core.specs.Standing.{IsFirstRow, StandsFor, stood_as}
-use Rattle.dds_core.proofs.Beating.{adds_none, adds_on}
-use Rattle.dds_core.specs.Storing.{Holds}
+use Rattle.dds_ends.specs.Beating.{AddsTo}
+use Rattle.dds_ends.specs.Standing.{IsFirstRow, stood_as}
+use Rattle.dds_core.specs.Standing.{StandsFor}
+use Rattle.dds_ends.proofs.Beating.{adds_none, adds_on}
+use Rattle.dds_ends.specs.Storing.{Holds}
 use Rattle.dds_core.proofs.Ends.{with_reader}
-use Rattle.dds_core.proofs.Lists.{element, left_at, left_more, drop_set, set_back}
+use Rattle.dds_ends.proofs.Lists.{element, left_at, left_more, drop_set, set_back}
 use Rattle.dds_core.proofs.Named.{first_row, is_to, row_of_writer}
 use Rattle.std.proofs.lemmas.Bool.Decides.{nat_tests}
 use Rattle.dds_machine.specs.Part.{Attachment}

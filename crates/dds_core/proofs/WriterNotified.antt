@@ -16,11 +16,14 @@ use Rattle.dds_machine.specs.Matching.{publication_matched}
 use Rattle.dds_machine.specs.Noticing.{looked_at, loss_raised, losses_of, publication_raised, told}
 use Rattle.dds_machine.specs.Part.{Part, Writer, at_writer, own_writer, writer_changes}
 use Rattle.dds_protocol.specs.Contact.{Contact}
-use Rattle.dds_core.specs.declared.marks.WriterMark.{WriterMark}
-use Rattle.dds_core.specs.declared.matching.ReaderName.{ReaderName}
-use Rattle.dds_core.specs.Kept.{PeerKept, WriterKept}
-use Rattle.dds_core.specs.Noticing.{IsWriterMarkOf, Tells, WriterRaisesSo, WriterSeesStatus, writer_seen_by}
-use Rattle.dds_core.specs.Standing.{StandsFor, WriterStands}
+use Rattle.dds_ends.specs.declared.marks.WriterMark.{WriterMark}
+use Rattle.dds_ends.specs.declared.matching.ReaderName.{ReaderName}
+use Rattle.dds_ends.specs.Kept.{WriterKept}
+use Rattle.dds_core.specs.Kept.{PeerKept}
+use Rattle.dds_ends.specs.Noticing.{IsWriterMarkOf, WriterRaisesSo, WriterSeesStatus, writer_seen_by}
+use Rattle.dds_core.specs.Noticing.{Tells}
+use Rattle.dds_ends.specs.Standing.{WriterStands}
+use Rattle.dds_core.specs.Standing.{StandsFor}
 use Rattle.dds_core.proofs.Ends.{with_writer, writer_put}
 use Rattle.dds_core.proofs.Notified.{tells_as, told_by}
 use Rattle.dds_core.proofs.Tellable.{tellable_put}

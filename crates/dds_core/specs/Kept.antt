@@ -1,48 +1,10 @@
--- What a peer keeps: what never changes, and what events change.
+-- What a peer keeps: its name, its moment, its ends, and what its application watches.
 --
--- RTPS 2.5, 8.2 (Participant, Endpoint), 8.4.7 (StatefulWriter, ReaderProxy), 8.4.10 (StatefulReader,
--- WriterProxy).
-use Rattle.std.specs.Prelude.{ℕ, Bool, List}
+-- RTPS 2.5, 8.2 (Participant).
+use Rattle.std.specs.Prelude.{ℕ, List}
 use Rattle.dds_base.specs.declared.guid.GuidPrefix.{GuidPrefix}
-use Rattle.dds_base.specs.declared.guid.EntityId.{EntityId}
 use Rattle.dds_conditions.specs.Watched.{Watched}
-use Rattle.rtps_reader.specs.Reader.{Proxies}
-use Rattle.rtps_writer.specs.Standing.{Kept}
-use Rattle.dds_core.specs.Stored.{StoreKept}
-use Rattle.dds_machine.specs.Part.{Seen}
-use Rattle.dds_core.specs.declared.match_counts.MatchCounts.{MatchCounts}
-use Rattle.dds_core.specs.declared.matching.Destination.{Destination}
-use Rattle.dds_core.specs.declared.matching.LastCount.{LastCount}
-use Rattle.dds_core.specs.declared.matching.ReaderName.{ReaderName}
-use Rattle.dds_core.specs.declared.matching.TopicName.{TopicName}
-use Rattle.dds_core.specs.declared.match_counts.MatchCounts.{MatchCounts}
-use Rattle.dds_core.specs.declared.matching.WriterName.{WriterName}
-
--- a writer: how long its values may be, the readers of its topic, its matched readers, to whose peers it sends, the
--- reliable ones by their names, what it keeps of those that were matched before, its matches, and what it keeps of its
--- changes and its reliable readers
-pub record WriterKept : Type 0 where
-  pub entity : EntityId
-  pub autodispose : Bool
-  pub max_value : ℕ
-  pub known : List TopicName
-  pub matched : List ReaderName
-  pub destinations : List Destination
-  pub readers : List ReaderName
-  pub counts : List LastCount
-  pub matches : MatchCounts
-  pub writer : Kept
-
--- a reader: the writers of its topic, what it knows of them, what it stores, what was seen of its statuses, its
--- matches, and with how many writers it is matched now
-pub record ReaderKept : Type 0 where
-  pub entity : EntityId
-  pub writers : List WriterName
-  pub reader : Proxies
-  pub store : StoreKept
-  pub seen : Seen
-  pub matches : MatchCounts
-  pub here : ℕ
+use Rattle.dds_ends.specs.Kept.{WriterKept, ReaderKept}
 
 -- a peer: its name, its moment in units of 2^-32 second, its writers and readers, and what its application watches
 pub record PeerKept : Type 0 where

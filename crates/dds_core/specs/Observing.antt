@@ -1,24 +1,23 @@
 -- What a datagram holds that would be nothing to a peer, as it stands before the datagram is delivered.
 --
 -- RTPS 2.5, 8.3.4 (the message receiver), 8.3.8 (Data: writerSN; Heartbeat: count), 8.4.10 (StatefulReader, WriterProxy).
-use Rattle.std.specs.Prelude.{◌≡◌, ◌⊎◌, ℕ, ◌+◌, Bool, true, false, not, ◌&&◌, nat_lt, List, [], ◌∷◌, length, Option, Some, None, IsSome}
+use Rattle.std.specs.Prelude.{◌≡◌, ◌⊎◌, ℕ, ◌+◌, Bool, true, false, ◌&&◌, List, [], ◌∷◌, length, Option, IsSome}
 use Rattle.dds_base.specs.declared.config.Config.{Config}
 use Rattle.dds_base.specs.declared.guid.EntityId.{EntityId}
 use Rattle.dds_base.specs.declared.guid.GuidPrefix.{GuidPrefix}
-use Rattle.dds_base.specs.Counts.{is_later}
 use Rattle.dds_base.specs.Kept.{numbers_from}
-use Rattle.rtps_reader.specs.Tracked.{Tracked}
 use Rattle.rtps_wire.specs.declared.message.Message.{Message}
 use Rattle.rtps_wire.specs.declared.submessage.Submessage.{Submessage}
 use Rattle.rtps_wire.specs.declared.submessage.Submessage.TheVariants.{Data, Heartbeat, AckNack, Gap}
 use Rattle.rtps_wire.specs.Messages.{ReadsMessage}
 use Rattle.dds_base.specs.declared.endpoint.Endpoint.{Endpoint}
-use Rattle.dds_machine.specs.Part.{acknowledged_of, own_writer, same_endpoint}
+use Rattle.dds_machine.specs.Part.{acknowledged_of, own_writer}
 use Rattle.dds_protocol.specs.Claims.{Receiver, receiver_of, after_submessage, is_for, Concerns, IsToWriter}
 use Rattle.dds_protocol.specs.Peer.{Peer}
 use Rattle.dds_protocol.specs.Protocol.{WhereMatched}
 use Rattle.dds_protocol.specs.Receipt.{prefix_of}
 use Rattle.dds_core.specs.declared.observing.Observed.{Observed}
+use Rattle.dds_ends.specs.Observing.{is_old, is_counted}
 
 -- the sum of what each of these says
 abbrev pub Sums : {X : Type 0} → (X → ℕ → Type 0) → List X → ℕ → Type 0
@@ -49,18 +48,6 @@ Counts own says bytes n =
 abbrev pub one_where : Bool → ℕ
 one_where true = 1
 one_where false = 0
-
--- to a reader that knows this of its writer a DATA is old whose number lies below the place, and a HEARTBEAT whose count
--- is not later than that of the last one that was taken
-abbrev pub is_old : Tracked → Submessage → Bool
-is_old t (Data d) = nat_lt d.writer_sn t.place
-is_old t (Heartbeat h) = not (is_later t.count h.count)
-is_old t submessage = false
-
--- whether what this writer says is counted: where one writer is asked for its own alone, else each one's
-abbrev pub is_counted : Option Endpoint → Endpoint → Bool
-is_counted (Some asked) writer = same_endpoint asked writer
-is_counted None writer = true
 
 -- 1 where the submessage is of a counted writer that is matched with the peer's reader of this number, for that reader, and
 -- old to it; else 0

@@ -2,12 +2,10 @@
 -- here has to be believed.
 --
 -- RTPS 2.5, 8.3.4 (the message receiver), 8.4.10 (StatefulReader, WriterProxy).
-use Rattle.std.specs.Prelude.{◌≡◌, ◌⊎◌, ◌≤◌, ℕ, Bool, false, ◌&&◌, List, slice_get, Option, Some}
+use Rattle.std.specs.Prelude.{◌≡◌, ◌≤◌, ℕ, Bool, List, slice_get, Option, Some}
 use Rattle.dds_base.specs.declared.config.Config.{Config}
 use Rattle.dds_base.specs.declared.guid.EntityId.{EntityId}
 use Rattle.dds_base.specs.declared.guid.GuidPrefix.{GuidPrefix}
-use Rattle.rtps_reader.specs.Reader.{Tracks}
-use Rattle.rtps_reader.specs.Tracked.{Tracked}
 use Rattle.rtps_wire.specs.declared.acknack.AckNack.{AckNack as AckNackBody}
 use Rattle.rtps_wire.specs.declared.submessage.Submessage.{Submessage}
 use Rattle.rtps_wire.specs.Messages.{ReadsAll}
@@ -15,27 +13,15 @@ use Rattle.rtps_wire.specs.Submessages.{Reads}
 use Rattle.dds_base.specs.declared.endpoint.Endpoint.{Endpoint}
 use Rattle.dds_protocol.specs.Claims.{Receiver, receiver_of, after_submessage}
 use Rattle.dds_protocol.specs.Peer.{Peer}
-use Rattle.dds_core.specs.declared.matching.ReaderName.{ReaderName}
-use Rattle.dds_core.specs.declared.matching.WriterName.{WriterName}
+use Rattle.dds_ends.specs.declared.matching.ReaderName.{ReaderName}
 use Rattle.dds_core.specs.declared.observing.Observed.{Observed}
-use Rattle.dds_core.specs.Answering.{IsFrom}
-use Rattle.dds_core.specs.Kept.{ReaderKept, WriterKept, PeerKept}
-use Rattle.dds_core.specs.Observing.{SumsInTurn, OldData, OldHeartbeats, OldTo, ToNobody, is_counted, is_old, one_where}
-use Rattle.dds_core.specs.Readiness.{IsNamedAt, IsNamedFor, IsUnnamed, NamedBy}
+use Rattle.dds_ends.specs.Answering.{IsFrom}
+use Rattle.dds_ends.specs.Kept.{ReaderKept, WriterKept}
+use Rattle.dds_core.specs.Kept.{PeerKept}
+use Rattle.dds_core.specs.Observing.{SumsInTurn, OldData, OldHeartbeats, OldTo, ToNobody, one_where}
+use Rattle.dds_ends.specs.Readiness.{IsNamedFor, NamedBy}
 use Rattle.dds_core.specs.Standing.{StandsFor}
-
--- the submessage names the reader, which has this of its writer of the row: that is counted and it is old there, or not
-pub record IsOldAtRow (own : GuidPrefix) (of : Option Endpoint) (at : Receiver) (submessage : Submessage)
-    (kept : ReaderKept) (old : Bool) : Type 0 where
-  pub row : ℕ
-  pub named : IsNamedAt own at submessage kept row
-  pub is : (name : WriterName) → slice_get kept.writers row ≡ Some name → (t : Tracked) → Tracks kept.reader row t
-      → old ≡ (is_counted of name.writer && is_old t submessage)
-
--- it is old at the reader, or not; where it does not name the reader it is not
-abbrev pub IsOldIn : GuidPrefix → Option Endpoint → Receiver → Submessage → ReaderKept → Bool → Type 0
-IsOldIn own of at submessage kept old =
-    IsOldAtRow own of at submessage kept old ⊎ (IsUnnamed own at submessage kept × (old ≡ false))
+use Rattle.dds_ends.specs.ObservingKept.{IsOldIn}
 
 -- the same as a number
 abbrev pub CountsOld : GuidPrefix → Option Endpoint → Receiver → Submessage → ReaderKept → ℕ → Type 0

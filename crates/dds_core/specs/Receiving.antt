@@ -24,14 +24,16 @@ use Rattle.dds_protocol.specs.Peer.{Peer, state_of}
 use Rattle.dds_protocol.specs.DueMessages.{Due, AreSent, acknacks_due}
 use Rattle.dds_protocol.specs.Protocol.{State, InTurn, ReaderTakes, Takes, MayNeedMemory, FollowsMessage, TakesPacket}
 use Rattle.dds_core.specs.declared.effects.Effects.{Effects}
-use Rattle.dds_core.specs.declared.matching.WriterName.{WriterName}
-use Rattle.dds_core.specs.declared.reader_told.Ready.{Ready}
-use Rattle.dds_core.specs.declared.sending.Announced.{Announced}
-use Rattle.dds_core.specs.Beating.{AddsTo}
-use Rattle.dds_core.specs.Sending.{AreMessages}
-use Rattle.dds_core.specs.Kept.{ReaderKept, PeerKept}
+use Rattle.dds_ends.specs.declared.matching.WriterName.{WriterName}
+use Rattle.dds_ends.specs.declared.reader_told.Ready.{Ready}
+use Rattle.dds_ends.specs.declared.sending.Announced.{Announced}
+use Rattle.dds_ends.specs.Beating.{AddsTo}
+use Rattle.dds_ends.specs.Sending.{AreMessages}
+use Rattle.dds_ends.specs.Kept.{ReaderKept}
+use Rattle.dds_core.specs.Kept.{PeerKept}
 use Rattle.dds_core.specs.Standing.{StandsFor}
-use Rattle.dds_core.specs.Readiness.{AreReady, CanTake, SameReader, TakesTold, moves_of}
+use Rattle.dds_ends.specs.Readiness.{CanTake, SameReader, TakesTold}
+use Rattle.dds_core.specs.Readiness.{AreReady, moves_of}
 
 -- nothing was done yet, and what is moved is to be kept twice, or once
 pub record NothingDone (twice : Bool) (effects : Effects) : Type 0 where

@@ -2,32 +2,26 @@
 -- nothing here has to be believed.
 --
 -- RTPS 2.5, 8.4.12 (reliable StatefulReader).
-use Rattle.std.specs.Prelude.{◌≡◌, ◌++◌, ℕ, suc, Bool, List, slice_get, Some}
+use Rattle.std.specs.Prelude.{◌≡◌, ◌++◌, ℕ, suc, List, slice_get, Some}
 use Rattle.dds_base.specs.declared.config.Config.{Config}
 use Rattle.dds_base.specs.declared.endpoint.Endpoint.{Endpoint}
-use Rattle.rtps_reader.specs.Attached.{goes_on}
-use Rattle.rtps_reader.specs.Reader.{Tracks, how_at}
-use Rattle.rtps_reader.specs.Tracked.{Tracked}
 use Rattle.dds_machine.specs.declared.reply.Move.{Move}
 use Rattle.dds_machine.specs.declared.reply.Report.{Report}
 use Rattle.dds_protocol.specs.Peer.{Peer, state_of}
 use Rattle.dds_protocol.specs.Protocol.{State, stands_to}
 use Rattle.dds_protocol.specs.Resuming.{GoesAgain, MayGoAgain, Resumes}
 use Rattle.dds_core.specs.declared.effects.Effects.{Effects}
-use Rattle.dds_core.specs.declared.matching.WriterName.{WriterName}
-use Rattle.dds_core.specs.declared.reader_told.Ready.{Ready}
-use Rattle.dds_core.specs.declared.reader_told.Told.TheVariants.{Again}
-use Rattle.dds_core.specs.Kept.{ReaderKept, PeerKept}
+use Rattle.dds_ends.specs.declared.matching.WriterName.{WriterName}
+use Rattle.dds_ends.specs.declared.reader_told.Ready.{Ready}
+use Rattle.dds_ends.specs.declared.reader_told.Told.TheVariants.{Again}
+use Rattle.dds_ends.specs.Kept.{ReaderKept}
+use Rattle.dds_core.specs.Kept.{PeerKept}
 use Rattle.dds_core.specs.Receiving.{with_state}
 use Rattle.dds_core.specs.Standing.{StandsFor}
 
 -- that the place at the writer of this row is tried again, as what is ready for a reader
 abbrev pub again : ℕ → Ready
 again row = record { row = row; told = Again }
-
--- whether something may go on at the row, by what the reader knows of its writer
-abbrev pub GoesOnAt : ReaderKept → ℕ → Bool → Type 0
-GoesOnAt kept row answer = (t : Tracked) → Tracks kept.reader row t → answer ≡ goes_on (how_at kept.reader row) t
 
 -- the peer has a reader of this index, which knows a writer in this row
 pub record HasRow (kept : PeerKept) (index row : ℕ) : Type 0 where

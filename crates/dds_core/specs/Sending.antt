@@ -1,11 +1,10 @@
 -- What a peer sends.
 --
 -- RTPS 2.5, 8.4.9 (the behaviour of a reliable StatefulWriter), 8.3.7 (what stands in a message).
-use Rattle.std.specs.Prelude.{◌≡◌, ◌≢◌, ℕ, ◌+◌, ◌^◌, length, Contains, AllPairs, List, []}
+use Rattle.std.specs.Prelude.{◌≡◌, ◌≢◌, ℕ, ◌+◌, length, Contains, AllPairs, List, []}
 use Rattle.dds_base.specs.declared.change.Change.{Change}
 use Rattle.dds_base.specs.declared.config.Config.{Config}
 use Rattle.dds_base.specs.Written.{Changed, Asserted}
-use Rattle.rtps_wire.specs.Messages.{HasSubmessage}
 use Rattle.dds_base.specs.declared.endpoint.Endpoint.{Endpoint}
 use Rattle.dds_protocol.specs.declared.event.Output.{Output}
 use Rattle.dds_protocol.specs.declared.event.Packet.{Packet}
@@ -17,10 +16,6 @@ use Rattle.dds_machine.specs.Part.{peers_of}
 use Rattle.dds_machine.specs.declared.reply.Reply.{Reply}
 use Rattle.dds_machine.specs.declared.reply.Reply.TheVariants.{Done}
 use Rattle.dds_protocol.specs.DueMessages.{Due, AreSent, changes_due, heartbeats_due, assertions_due}
-
--- Of one event fewer packets than this are counted as unsent: such counts can be added.
-abbrev pub max_unsent : ℕ
-max_unsent = 2 ^ 62
 
 -- nothing is sent, and nothing found no memory
 pub record SendsNothing (output : Output) : Type 0 where
@@ -47,10 +42,6 @@ SendsFor config peer (writes writer (Asserted moment)) output =
     AreSent (assertions_due config (peer.known.answered writer) (record { peer = peer.number; number = writer })
     (own_writer peer.part writer)) output.packets output.unsent
 SendsFor config peer other output = SendsNothing output
-
--- each packet is a message
-abbrev pub AreMessages : List Packet → Type 0
-AreMessages packets = (packet : Packet) → Contains packets packet → HasSubmessage packet.bytes
 
 -- what is due at a tick that this answers: the HEARTBEATs of the peer's writers, and nothing where it is refused
 abbrev pub due_at_tick : Config → Peer → Reply → List Due

@@ -8,13 +8,12 @@ ghost use Rattle.dds_protocol.specs.declared.event.Event.TheVariants as event;
 ghost use Rattle.dds_core.specs.Accesses.{access_call};
 ghost use Rattle.dds_core.specs.Stepping.{Steps};
 ghost use Rattle.dds_core.specs.Sending.{SendsNothing};
-ghost use Rattle.dds_core.specs.Twins.{IsPlain, Twins};
+ghost use Rattle.dds_ends.specs.Twins.{IsPlain, Twins};
 
-use crate::output::{answered, reply_to_access};
 use crate::peer::Peer;
-use crate::twin::Twin;
 use dds_base::{Code, Handle, Key, Selection, index_of};
 use dds_cache::{AccessKind, Everything};
+use dds_ends::{Twin, answered, reply_to_access};
 use dds_machine::Reply;
 use dds_protocol::Output;
 

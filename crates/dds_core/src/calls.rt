@@ -7,22 +7,21 @@ ghost use Rattle.dds_base.specs.Bounds.{max_readers};
 ghost use Rattle.dds_machine.specs.declared.reply.Reply.TheVariants.{Done, Refused};
 ghost use Rattle.dds_machine.specs.declared.call.Call.TheVariants as call;
 ghost use Rattle.dds_protocol.specs.declared.event.Event.TheVariants as event;
-ghost use Rattle.dds_core.specs.Kept.{WriterKept};
+ghost use Rattle.dds_ends.specs.Kept.{WriterKept};
 ghost use Rattle.dds_core.specs.Remembering.{AreMisses};
-ghost use Rattle.dds_core.specs.Standing.{IsShort};
+ghost use Rattle.dds_ends.specs.Standing.{IsShort};
 ghost use Rattle.dds_core.specs.Stepping.{Sends, Steps, StepsBy};
 ghost use Rattle.dds_core.specs.Making.{Makes, IsValueOf};
-ghost use Rattle.dds_core.specs.Sending.{SendsNothing, AreMessages};
-ghost use Rattle.dds_core.specs.Twins.{IsPlain, Twins};
+ghost use Rattle.dds_ends.specs.Sending.{AreMessages};
+ghost use Rattle.dds_core.specs.Sending.{SendsNothing};
+ghost use Rattle.dds_ends.specs.Twins.{IsPlain, Twins};
 
 use crate::misses::Misses;
-use crate::output::answered;
 use crate::peer::Peer;
-use crate::sending::Announced;
-use crate::twin::Twin;
 use dds_base::{Change, ChangeKind, Code, Key, Octets, Sequence, index_of};
 use dds_cache::AccessKind;
 use dds_conditions::Filters;
+use dds_ends::{Announced, Twin, answered};
 use dds_machine::{Call, Reply};
 use dds_protocol::Output;
 

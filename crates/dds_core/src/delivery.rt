@@ -10,22 +10,20 @@ ghost use Rattle.dds_machine.specs.declared.reply.Reply.TheVariants.{Reported};
 ghost use Rattle.dds_protocol.specs.declared.event.Event.TheVariants as event;
 ghost use Rattle.rtps_wire.specs.declared.submessage.Submessage.TheVariants as submessage_of;
 ghost use Rattle.dds_core.specs.Stepping.{SoundSteps};
-ghost use Rattle.dds_core.specs.Sending.{AreMessages, max_unsent};
-ghost use Rattle.dds_core.specs.Readiness.{receiver_at, change_ready, IsReliableAt, IsBounded, AreReady, AreAlike, IsFirstNamed, IsNamedAt, IsReadyFor, IsRowOf, NamedBy, NamesNone, begins_at, begun_moves, moves_of};
+ghost use Rattle.dds_ends.specs.Sending.{AreMessages, max_unsent};
+ghost use Rattle.dds_ends.specs.Readiness.{receiver_at, change_ready, IsNamedAt, IsReadyFor, IsRowOf, NamedBy};
+ghost use Rattle.dds_core.specs.Readiness.{IsReliableAt, IsBounded, AreReady, AreAlike, IsFirstNamed, NamesNone, begins_at, begun_moves, moves_of};
 ghost use Rattle.dds_core.specs.Receiving.{only_last, CanTakeAt, TakesAt, AllCanTake, TakesAll, TellsReaders, TakesOneMore, TakesFrame, KeepsPeer, NeedsMemory, FrameNeedsMemory, GoOn, NothingDone, Announces, TakesBody, StandsAsWell, ReceivesPacket};
-ghost use Rattle.dds_core.specs.Twins.{Twins, wants_two};
+ghost use Rattle.dds_ends.specs.Twins.{Twins, wants_two};
 
-use crate::acknack::send_acknack;
 use crate::effects::Effects;
 use crate::moves::Moves;
-use crate::output::unmoved;
 use crate::peer::Peer;
-use crate::reader_end::ReaderEnd;
-use crate::reader_told::{Ids, Ready, ReadyChange, Telling, ids_of};
-use crate::receiver::{MessageReceiver, receiver_for};
-use crate::sending::Announced;
-use crate::twin::Twin;
 use dds_base::{Code, Endpoint, GuidPrefix, Sequence, Sn};
+use dds_ends::{
+    Announced, Ids, MessageReceiver, ReaderEnd, Ready, ReadyChange, Telling, Twin, ids_of,
+    receiver_for, send_acknack, unmoved,
+};
 use dds_machine::{Move, Reply, Report};
 use dds_protocol::Output;
 use rtps_reader::Step;

@@ -4,7 +4,7 @@ ghost use Rattle.std.specs.Prelude.{◌≡◌, []};
 ghost use Rattle.dds_core.specs.Receiving.{NothingDone};
 
 use crate::moves::Moves;
-use crate::sending::Announced;
+use dds_ends::Announced;
 use dds_machine::Move;
 use std::alloc::Global;
 

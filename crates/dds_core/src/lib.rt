@@ -2,8 +2,8 @@
 //!
 //! DDS 1.4, 2.2.2.1, 2.2.2.4 and 2.2.2.5 (Entity, DataWriter, DataReader); RTPS 2.5, 8.2 (Participant), 8.4
 //! (behaviour).
-//! Not here: the network between peers (`dds_world`), the bytes of messages (`rtps_wire`), a writer and what it
-//! keeps (`rtps_writer`), what a reader holds (`dds_cache`) and whose leases are over (`dds_lease`).
+//! Not here: the network between peers (`dds_world`), the bytes of messages (`rtps_wire`), and each end of a peer, a
+//! writer or a reader, with what it keeps, says and is told (`dds_ends`).
 //!
 //! Both peers of the configuration in the head of `dds_base`, whose packets the caller carries:
 //!
@@ -37,22 +37,13 @@
 #![tactic(auto)]
 
 mod access;
-mod acknack;
-mod answering;
 mod application;
 mod by_filter;
 mod calls;
-mod coming;
 mod delivery;
 mod effects;
-mod expiring;
 mod filtered_peer;
-mod heartbeat;
 mod lent_event;
-mod limits;
-mod marks;
-mod match_counts;
-mod matching;
 mod matching_readers;
 mod matching_writers;
 mod mindful;
@@ -61,24 +52,12 @@ mod moves;
 mod noticing;
 mod observing;
 mod opening;
-mod output;
 mod pairing;
 mod peer;
-mod reader_asked;
-mod reader_end;
-mod reader_matching;
-mod reader_told;
-mod receiver;
 mod requests;
 mod resuming;
-mod seen;
-mod sending;
 mod spare_lists;
-mod status_bits;
-mod store;
-mod twin;
 mod watching;
-mod writer_end;
 
 pub use application::Core;
 pub use mindful::Mindful;

@@ -8,12 +8,11 @@ ghost use Rattle.dds_machine.specs.declared.call.Call.TheVariants as call;
 ghost use Rattle.dds_protocol.specs.declared.event.Event.TheVariants as event;
 ghost use Rattle.dds_core.specs.Stepping.{Steps};
 ghost use Rattle.dds_core.specs.Sending.{SendsNothing};
-ghost use Rattle.dds_core.specs.Twins.{IsPlain};
+ghost use Rattle.dds_ends.specs.Twins.{IsPlain};
 
-use crate::output::answered;
-use crate::pairing::writer_row_among;
 use crate::peer::Peer;
 use dds_base::{Code, Endpoint, Handle, index_of};
+use dds_ends::{answered, writer_row_among};
 use dds_machine::Reply;
 use dds_protocol::Output;
 

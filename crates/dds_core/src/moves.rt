@@ -5,11 +5,11 @@
 ghost use Rattle.std.specs.Prelude.{◌≡◌, ◌++◌, ◌∷◌, [], ◌+◌, ◌≤◌, false, true, if◌then◌else◌, length, OnErr, OnOk, vec_capacity, vec_len};
 ghost use Rattle.dds_machine.specs.declared.reply.Reply.TheVariants.{Reported};
 ghost use Rattle.dds_core.specs.Moved.{IsFew};
-ghost use Rattle.dds_core.specs.Twins.{Twins, wants_two};
-ghost use Rattle.dds_core.specs.declared.twin.Twin.TheVariants.{Kept};
+ghost use Rattle.dds_ends.specs.Twins.{Twins, wants_two};
+ghost use Rattle.dds_ends.specs.declared.twin.Twin.TheVariants.{Kept};
 
-use crate::twin::Twin;
 use dds_base::{PassedRun, Sequence, reserve_few};
+use dds_ends::Twin;
 use dds_machine::{Move, Reply, Report};
 use std::alloc::{AllocError, Global};
 use std::marker::Model;

@@ -6,11 +6,12 @@ ghost use Rattle.std.specs.Prelude.{◌≡◌, ◌≤◌, length};
 ghost use Rattle.dds_base.specs.declared.entity.Entity.TheVariants as entity;
 ghost use Rattle.dds_machine.specs.Noticing.{at_end, each_told, reader_told, told, writer_told};
 ghost use Rattle.dds_machine.specs.Part.{Part, own_proxies, own_reader, own_writer};
-ghost use Rattle.dds_core.specs.Noticing.{AreMarksOf, IsMarkOf, IsWriterMarkOf, MarksPeer, Tells};
+ghost use Rattle.dds_ends.specs.Noticing.{IsMarkOf, IsWriterMarkOf};
+ghost use Rattle.dds_core.specs.Noticing.{AreMarksOf, MarksPeer, Tells};
 
-use crate::marks::{Marks, ReaderMark, WriterMark, mark_readers, mark_writers};
 use crate::peer::Peer;
 use dds_base::Entity;
+use dds_ends::{Marks, ReaderMark, WriterMark, mark_readers, mark_writers};
 use dds_notices::{Listener, Notice, Slots, Status};
 
 impl Peer {

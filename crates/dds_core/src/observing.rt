@@ -11,17 +11,14 @@ ghost use Rattle.dds_protocol.specs.Claims.{is_for};
 ghost use Rattle.dds_protocol.specs.Peer.{Peer as PeerState};
 ghost use Rattle.dds_core.specs.Observing.{Observes, Sums};
 ghost use Rattle.dds_core.specs.ObservingKept.{AtMost, CountsOld, IsFromNobody, IsFromReader, IsNamedReader, IsNamedWriter, NamesNoReader, NamesNoWriter, ObservesBody, ObservesFrame, ObservesSubmessage, OldToReaders, ToNobodyOf};
-ghost use Rattle.dds_core.specs.Readiness.{NamedBy, receiver_at};
+ghost use Rattle.dds_ends.specs.Readiness.{NamedBy, receiver_at};
 ghost use Rattle.dds_core.specs.Standing.{StandsFor};
 
-use crate::answering::is_from;
-use crate::matching::ReaderName;
 use crate::peer::Peer;
-use crate::reader_end::ReaderEnd;
-use crate::reader_told::{Ids, ids_of};
-use crate::receiver::{MessageReceiver, is_for, receiver_for};
-use crate::writer_end::WriterEnd;
 use dds_base::{Endpoint, EntityId, GuidPrefix};
+use dds_ends::{
+    Ids, MessageReceiver, ReaderEnd, ReaderName, WriterEnd, ids_of, is_for, is_from, receiver_for,
+};
 use rtps_wire::{AckNack, Frame, MAX_MESSAGE, Submessage, begin_message, next_frame};
 
 /// What a datagram holds that would be nothing to a peer.

@@ -11,11 +11,10 @@ ghost use Rattle.dds_core.specs.OpeningEnds.{OpensEach, OpensCore};
 ghost use Rattle.dds_core.specs.Standing.{StandsFor};
 
 use crate::peer::Peer;
-use crate::reader_end::ReaderEnd;
 use crate::spare_lists::SpareLists;
-use crate::writer_end::WriterEnd;
 use dds_base::{Code, Config, Moment, PeerConfig, index_of_peer};
 use dds_conditions::Watch;
+use dds_ends::{ReaderEnd, WriterEnd};
 use std::alloc::{AllocError, Global};
 
 /// What opens of each of these configurations, in their order.

@@ -3,18 +3,16 @@
 //!
 //! RTPS 2.5, 8.4.7 (StatefulWriter, matched_readers), 8.4.10 (StatefulReader, matched_writers).
 
-ghost use Rattle.std.specs.Prelude.{◌≡◌, ℕ, slice_get, Some, MatchOption};
+ghost use Rattle.std.specs.Prelude.{◌≡◌, Some};
 ghost use Rattle.dds_base.specs.declared.config.Config.{Config};
 ghost use Rattle.dds_machine.specs.Part.{how_of, is_attached, own_proxies, place_of};
 ghost use Rattle.dds_protocol.specs.Peer.{Peer as PeerState};
-ghost use Rattle.dds_core.specs.declared.matching.ReaderName.{ReaderName as NameOf};
-ghost use Rattle.dds_core.specs.declared.matching.WriterName.{WriterName as WriterNameOf};
 ghost use Rattle.dds_core.specs.Pairs.{IsPair};
-ghost use Rattle.dds_core.specs.Standing.{StandsFor, IsFirstReader, IsFirstRow};
+ghost use Rattle.dds_core.specs.Standing.{StandsFor};
 
-use crate::matching::{ReaderName, WriterName};
 use crate::peer::Peer;
 use dds_base::{Endpoint, EntityId, Moment, Sn, index_of};
+use dds_ends::{row_among, writer_row_among};
 
 /// A writer and a reader that it is matched with, by their entity ids.
 #[derive(Clone, Copy)]
@@ -27,34 +25,6 @@ pub struct Pair {
     pub is_behind: bool,
     /// The number of the writer's last change; 0 before the first.
     pub last: Sn,
-}
-
-/// The first row of this reader, if it is among these.
-pub fn row_among(names: &[ReaderName], reader: Endpoint) -> Option<usize>
-    ensures { MatchOption result
-        ((k : ℕ) (n : NameOf) → slice_get names.now k ≡ Some n → n.reader ≡ reader → ⊥)
-        (IsFirstReader names.now reader) }
-{
-    for (row, name) in names.iter().enumerate() {
-        if name.reader == reader {
-            return Some(row);
-        }
-    }
-    None
-}
-
-/// The first row of this writer, if it is among these.
-pub fn writer_row_among(names: &[WriterName], writer: Endpoint) -> Option<usize>
-    ensures { MatchOption result
-        ((k : ℕ) (n : WriterNameOf) → slice_get names.now k ≡ Some n → n.writer ≡ writer → ⊥)
-        (IsFirstRow names.now writer) }
-{
-    for (row, name) in names.iter().enumerate() {
-        if name.writer == writer {
-            return Some(row);
-        }
-    }
-    None
 }
 
 impl Peer {

@@ -7,20 +7,17 @@ ghost use Rattle.dds_protocol.specs.declared.event.Event.TheVariants as event;
 ghost use Rattle.dds_core.specs.Lending.{event_of};
 ghost use Rattle.dds_core.specs.Remembering.{AreMisses};
 ghost use Rattle.dds_core.specs.Stepping.{Sends, Steps, SoundStepsBy};
-ghost use Rattle.dds_core.specs.Sending.{AreMessages, max_unsent};
-ghost use Rattle.dds_core.specs.Twins.{IsPlain, Twins};
+ghost use Rattle.dds_ends.specs.Sending.{AreMessages, max_unsent};
+ghost use Rattle.dds_ends.specs.Twins.{IsPlain, Twins};
 
-use crate::expiring::{counts_deaths, expire_all};
 use crate::lent_event::LentEvent;
 use crate::misses::Misses;
-use crate::output::answered;
-use crate::reader_end::ReaderEnd;
-use crate::sending::Announced;
 use crate::spare_lists::SpareLists;
-use crate::twin::Twin;
-use crate::writer_end::{WriterEnd, tick_all};
 use dds_base::{Code, GuidPrefix, MOMENT_END, Moment, Sequence};
 use dds_conditions::{Filters, Watch};
+use dds_ends::{
+    Announced, ReaderEnd, Twin, WriterEnd, answered, counts_deaths, expire_all, tick_all,
+};
 use dds_machine::Reply;
 use dds_protocol::Output;
 use std::alloc::Global;

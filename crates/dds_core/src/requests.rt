@@ -5,18 +5,17 @@
 ghost use Rattle.std.specs.Prelude.{◌≡◌, ◌+◌, ◌^◌, ◌<◌, ◌≤◌, Some, length, slice_get, IfSome, IfNone, OnOk, OnErr};
 ghost use Rattle.dds_base.specs.Bounds.{max_readers, window_width};
 ghost use Rattle.rtps_wire.specs.declared.submessage.Submessage.TheVariants as submessage;
-ghost use Rattle.dds_core.specs.Answering.{HasRoom, HaveRoom, AsksNone, IsAskedWriter, TakesRow, TakesAllRows, acknack_moves, listed};
-ghost use Rattle.dds_core.specs.Kept.{WriterKept};
+ghost use Rattle.dds_ends.specs.Answering.{HasRoom, acknack_moves, listed};
+ghost use Rattle.dds_core.specs.Answering.{HaveRoom, AsksNone, IsAskedWriter, TakesRow, TakesAllRows};
+ghost use Rattle.dds_ends.specs.Kept.{WriterKept};
 ghost use Rattle.dds_core.specs.Moved.{IsFew};
-ghost use Rattle.dds_core.specs.Readiness.{receiver_at};
+ghost use Rattle.dds_ends.specs.Readiness.{receiver_at};
 ghost use Rattle.dds_core.specs.Receiving.{GoOn, TakesOneMore, KeepsPeer, NeedsMemory};
 
-use crate::answering::Room;
 use crate::effects::Effects;
 use crate::peer::Peer;
-use crate::receiver::MessageReceiver;
-use crate::writer_end::WriterEnd;
 use dds_base::{Code, Endpoint, GuidPrefix, Sn};
+use dds_ends::{MessageReceiver, Room, WriterEnd};
 use dds_machine::Move;
 use rtps_wire::AckNack;
 

@@ -7,16 +7,14 @@ ghost use Rattle.dds_machine.specs.declared.reply.Reply.TheVariants.{Reported};
 ghost use Rattle.dds_protocol.specs.declared.event.Event.TheVariants as event;
 ghost use Rattle.dds_core.specs.Receiving.{CanTakeAt, GoOn, NothingDone, StandsAsWell};
 ghost use Rattle.dds_core.specs.Resuming.{HasRow, ResumesAll, RowNeedsMemory, SameRows, TriesRow, again};
-ghost use Rattle.dds_core.specs.Sending.{AreMessages, max_unsent};
+ghost use Rattle.dds_ends.specs.Sending.{AreMessages, max_unsent};
 ghost use Rattle.dds_core.specs.Stepping.{SoundSteps};
-ghost use Rattle.dds_core.specs.Twins.{Twins, wants_two};
+ghost use Rattle.dds_ends.specs.Twins.{Twins, wants_two};
 
 use crate::effects::Effects;
-use crate::output::answered;
 use crate::peer::Peer;
-use crate::reader_told::{Ready, Told};
-use crate::twin::Twin;
 use dds_base::{Code, index_of};
+use dds_ends::{Ready, Told, Twin, answered};
 use dds_machine::{Reply, Report};
 use dds_protocol::Output;
 

@@ -33,7 +33,7 @@ use Rattle.dds_machine.proofs.Tables.{no_less_on, no_less_same, slice_get-append
 use Rattle.dds_core.specs.Kept.{PeerKept}
 use Rattle.dds_core.specs.Standing.{StandsFor as CoreStandsFor}
 use Rattle.dds_core.specs.Ruling.{IsSound}
-use Rattle.dds_core.proofs.Lists.{element}
+use Rattle.dds_ends.proofs.Lists.{element}
 use Rattle.dds_world.specs.declared.round.RoundReply.{RoundReply}
 use Rattle.dds_world.specs.Round.{IsStep, AreSteps, HasNone, has_unsent, is_whole, are_whole, replies_of}
 use Rattle.dds_world.specs.WorldStanding.{Hearing, WorldKept, StandsFor}

@@ -39,10 +39,10 @@ use Rattle.dds_protocol.proofs.Composed.{parts_at}
 use Rattle.dds_protocol.proofs.SameBeside.{SameBeside, bounded_beside, filter_beside, place_beside, sound_beside, used_beside}
 use Rattle.dds_core.specs.Kept.{PeerKept}
 use Rattle.dds_core.specs.Listening.{Adds as CoreAdds, CoreKept, RefusesFilter as CoreRefuses, RefusesListener as CoreRefusesListener, Sets as CoreSets, StandsFor as CoreStands, Steps as CoreSteps}
-use Rattle.dds_core.specs.Sending.{AreMessages}
+use Rattle.dds_ends.specs.Sending.{AreMessages}
 use Rattle.dds_core.specs.Ruling.{IsSound}
-use Rattle.dds_core.proofs.Lists.{map-get, map-set_same}
-use Rattle.dds_core.proofs.Results.{err_as, ok_as}
+use Rattle.dds_ends.proofs.Lists.{map-get, map-set_same}
+use Rattle.dds_ends.proofs.Results.{err_as, ok_as}
 use Rattle.dds_world.specs.Acting.{Acts, Counts, IsQuiet, RuledSteps, StepsAt}
 use Rattle.dds_world.specs.Holding.{Adds, Held, RefusesFilter, RefusesListener, Sets, filters_of, given_at, heard, kept_of, tests_by, tests_in}
 use Rattle.dds_world.specs.HeldSteps.{ActsIn, IsOfPeer, StepsIn}

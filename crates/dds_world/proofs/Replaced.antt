@@ -12,10 +12,10 @@ use Rattle.dds_machine.specs.Numbered.{with_numbered}
 use Rattle.dds_protocol.specs.Peer.{Peer, no_peer}
 use Rattle.dds_protocol.specs.World.{Sound, WorldState, machine_of, peer_at}
 use Rattle.dds_core.specs.Kept.{PeerKept}
-use Rattle.dds_core.specs.Sending.{AreMessages}
+use Rattle.dds_ends.specs.Sending.{AreMessages}
 use Rattle.dds_core.specs.Standing.{StandsFor as CoreStandsFor}
 use Rattle.dds_core.specs.Ruling.{IsSound}
-use Rattle.dds_core.proofs.Lists.{each_set, each_set_at}
+use Rattle.dds_ends.proofs.Lists.{each_set, each_set_at}
 use Rattle.dds_world.specs.WorldStanding.{StandsFor, WorldKept}
 
 -- the network in which one peer is another, and these packets were sent

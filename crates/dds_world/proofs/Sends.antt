@@ -27,7 +27,7 @@ use Rattle.dds_core.specs.Kept.{PeerKept}
 use Rattle.dds_core.specs.Ruling.{KeepsRules as CoreKeepsRules}
 use Rattle.dds_core.specs.Sending.{SendsNothing, SendsChange, SendsFor, due_at_tick}
 use Rattle.dds_core.proofs.CallSteps.{number_is, refused_nothing}
-use Rattle.dds_core.proofs.Lists.{get-within}
+use Rattle.dds_ends.proofs.Lists.{get-within}
 use Rattle.dds_world.specs.WorldStanding.{Hearing, WorldKept, StandsFor, traffic}
 use Rattle.dds_world.specs.Posting.{Posts, Announces}
 use Rattle.dds_world.specs.Acting.{Acts, Counts, IsQuiet}

@@ -36,7 +36,7 @@ use Rattle.dds_machine.proofs.Tables.{append_nothing}
 use Rattle.dds_core.specs.Standing.{StandsFor as CoreStandsFor}
 use Rattle.dds_core.specs.Ruling.{KeepsRules as CoreKeepsRules}
 use Rattle.dds_core.proofs.CallSteps.{refused_nothing}
-use Rattle.dds_core.proofs.Lists.{get-within}
+use Rattle.dds_ends.proofs.Lists.{get-within}
 use Rattle.dds_world.specs.WorldStanding.{Hearing, WorldKept, StandsFor}
 use Rattle.dds_world.specs.Posting.{ArePosted, Posts}
 use Rattle.dds_world.specs.Acting.{Acts, RuledSteps}

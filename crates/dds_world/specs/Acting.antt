@@ -19,7 +19,8 @@ use Rattle.dds_protocol.specs.Rules.{RuledStep}
 use Rattle.dds_protocol.specs.World.{WorldState, machine_of}
 use Rattle.dds_core.specs.Kept.{PeerKept}
 use Rattle.dds_core.specs.Opening.{opening_peer}
-use Rattle.dds_core.specs.Sending.{SendsNothing, AreMessages}
+use Rattle.dds_ends.specs.Sending.{AreMessages}
+use Rattle.dds_core.specs.Sending.{SendsNothing}
 use Rattle.dds_core.specs.Listening.{CoreKept, StandsFor as CoreStands, no_listeners}
 use Rattle.dds_core.specs.Standing.{StandsFor as CoreStandsFor}
 use Rattle.dds_core.specs.Ruling.{IsSound, KeepsRules as CoreKeepsRules}

@@ -16,7 +16,7 @@ use Rattle.dds_protocol.specs.Rules.{CountedStep, RuledRun}
 use Rattle.dds_protocol.specs.Traffic.{Traffic}
 use Rattle.dds_protocol.specs.World.{WorldState, machine_of, peer_at, Sound}
 use Rattle.dds_core.specs.Kept.{PeerKept}
-use Rattle.dds_core.specs.Sending.{AreMessages}
+use Rattle.dds_ends.specs.Sending.{AreMessages}
 use Rattle.dds_core.specs.Standing.{StandsFor as CoreStandsFor}
 use Rattle.dds_core.specs.Ruling.{IsSound}
 

@@ -1,6 +1,6 @@
 use Rattle.std.proofs.Common.{◌≡◌, ◌<◌, ℕ, Some, None, slice_get}
-use Rattle.dds_core.specs.Kept.{ReaderKept}
-use Rattle.dds_core.specs.Readiness.{receiver_at, IsReadyFor}
+use Rattle.dds_ends.specs.Kept.{ReaderKept}
+use Rattle.dds_ends.specs.Readiness.{receiver_at, IsReadyFor}
 use Rattle.dds_core.proofs.delivery.named_reader.Given as goal
 
 -- nothing is for a reader before this one

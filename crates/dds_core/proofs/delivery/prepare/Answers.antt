@@ -1,6 +1,6 @@
 use Rattle.std.proofs.Common.{refl, arith, rules}
 use Rattle.std.proofs.lemmas.Grind.{common_steps}
-use Rattle.dds_core.specs.Readiness.{receiver_at}
+use Rattle.dds_ends.specs.Readiness.{receiver_at}
 use Rattle.dds_core.proofs.Ready.{none_there, all_alike_self, alike_more, ready_for, ready_more, rest_more, row_is, row_named, row_within, still_ready}
 use Rattle.dds_core.proofs.delivery.prepare.Goals as goal
 

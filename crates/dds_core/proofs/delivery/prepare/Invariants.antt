@@ -1,8 +1,9 @@
 use Rattle.std.proofs.Common.{◌≡◌, ℕ, Some, drop, slice_get, length}
 use Rattle.std.specs.Prelude.{Option}
-use Rattle.dds_core.specs.declared.reader_told.Ready.{Ready}
-use Rattle.dds_core.specs.Kept.{ReaderKept}
-use Rattle.dds_core.specs.Readiness.{receiver_at, IsReadyFor, AreAlike}
+use Rattle.dds_ends.specs.declared.reader_told.Ready.{Ready}
+use Rattle.dds_ends.specs.Kept.{ReaderKept}
+use Rattle.dds_ends.specs.Readiness.{receiver_at, IsReadyFor}
+use Rattle.dds_core.specs.Readiness.{AreAlike}
 use Rattle.dds_core.proofs.delivery.prepare.Given as goal
 
 abbrev pub invariant-loop-index : goal.invariant-loop-index

@@ -1,7 +1,8 @@
 use Rattle.std.proofs.Common.{◌≡◌, ◌+◌, ℕ, Bool, true, false, take, subst, sym, refl, arith}
 use Rattle.dds_core.specs.Observing.{Sums}
-use Rattle.dds_core.specs.ObservingKept.{CountsOld, IsOldIn}
-use Rattle.dds_core.specs.Readiness.{receiver_at}
+use Rattle.dds_ends.specs.ObservingKept.{IsOldIn}
+use Rattle.dds_core.specs.ObservingKept.{CountsOld}
+use Rattle.dds_ends.specs.Readiness.{receiver_at}
 use Rattle.dds_core.proofs.Counted.{sums_more}
 use Rattle.dds_core.proofs.observing.count_old.Goals as goal
 use Rattle.dds_core.proofs.observing.count_old.Goals.{then-is_old, else-is_old}

@@ -1,7 +1,7 @@
 use Rattle.std.proofs.Common.{◌≤◌, take}
 use Rattle.dds_core.specs.Observing.{Sums}
 use Rattle.dds_core.specs.ObservingKept.{CountsOld}
-use Rattle.dds_core.specs.Readiness.{receiver_at}
+use Rattle.dds_ends.specs.Readiness.{receiver_at}
 use Rattle.dds_core.proofs.observing.count_old.Given as goal
 
 -- to so many of the readers up to here it is old

@@ -1,8 +1,8 @@
 use Rattle.std.proofs.Common.{◌≡◌, ℕ, Some, slice_get, subst, ◌∙◌, below_more, arith}
 use Rattle.std.proofs.lemmas.Option.{get_or_from_slice_get}
-use Rattle.dds_core.specs.Kept.{ReaderKept}
-use Rattle.dds_core.specs.Readiness.{receiver_at, IsNamedFor}
-use Rattle.dds_core.proofs.Lists.{get-within}
+use Rattle.dds_ends.specs.Kept.{ReaderKept}
+use Rattle.dds_ends.specs.Readiness.{receiver_at, IsNamedFor}
+use Rattle.dds_ends.proofs.Lists.{get-within}
 use Rattle.dds_core.proofs.observing.named_reader.Goals as goal
 
 pub loop-index-preserved : goal.loop-index-preserved

@@ -1,6 +1,6 @@
 use Rattle.std.proofs.Common.{◌≡◌, ◌<◌, ℕ, Some, slice_get}
-use Rattle.dds_core.specs.Kept.{ReaderKept}
-use Rattle.dds_core.specs.Readiness.{receiver_at, IsNamedFor}
+use Rattle.dds_ends.specs.Kept.{ReaderKept}
+use Rattle.dds_ends.specs.Readiness.{receiver_at, IsNamedFor}
 use Rattle.dds_core.proofs.observing.named_reader.Given as goal
 
 -- it is for no reader before this one

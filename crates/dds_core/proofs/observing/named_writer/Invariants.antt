@@ -1,7 +1,7 @@
 use Rattle.std.proofs.Common.{◌≡◌, ◌<◌, ℕ, Some, slice_get}
-use Rattle.dds_core.specs.Kept.{WriterKept}
+use Rattle.dds_ends.specs.Kept.{WriterKept}
 use Rattle.dds_core.specs.ObservingKept.{IsFromNobody}
-use Rattle.dds_core.specs.Readiness.{receiver_at}
+use Rattle.dds_ends.specs.Readiness.{receiver_at}
 use Rattle.dds_core.proofs.observing.named_writer.Given as goal
 
 -- it is for no writer before this one

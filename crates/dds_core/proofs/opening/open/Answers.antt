@@ -1,7 +1,8 @@
 use Rattle.std.proofs.Common.{List, rules, subst}
 use Rattle.dds_base.specs.declared.config.WriterConfig.{WriterConfig}
 use Rattle.dds_base.specs.declared.config.ReaderConfig.{ReaderConfig}
-use Rattle.dds_core.specs.OpeningEnds.{OpensEach, OpensReader, OpensWriter}
+use Rattle.dds_ends.specs.OpeningEnds.{OpensReader, OpensWriter}
+use Rattle.dds_core.specs.OpeningEnds.{OpensEach}
 use Rattle.dds_core.proofs.OpeningLaws.{opens_as, opens_core}
 use Rattle.dds_core.proofs.opening.open.Goals as goal
 

@@ -1,7 +1,7 @@
 use Rattle.std.proofs.Common.{◌≡◌, ◌<◌, ℕ, Some, slice_get}
-use Rattle.dds_core.specs.Answering.{IsUnasked}
-use Rattle.dds_core.specs.Kept.{WriterKept}
-use Rattle.dds_core.specs.Readiness.{receiver_at}
+use Rattle.dds_ends.specs.Answering.{IsUnasked}
+use Rattle.dds_ends.specs.Kept.{WriterKept}
+use Rattle.dds_ends.specs.Readiness.{receiver_at}
 use Rattle.dds_core.proofs.requests.asked_writer.Given as goal
 
 -- the ACKNACK is for no writer before this one

@@ -2,7 +2,7 @@ use Rattle.std.proofs.Common.{subst}
 use Rattle.std.specs.Prelude.{IfErr, IfOk}
 use Rattle.dds_core.specs.Listening.{Adds, CoreKept, RefusesFilter}
 use Rattle.dds_core.proofs.Ended.{adds, refuses}
-use Rattle.dds_core.proofs.Results.{err_as, ok_as}
+use Rattle.dds_ends.proofs.Results.{err_as, ok_as}
 use Rattle.dds_core.proofs.application.Core.add_filter.Goals as goal
 
 pub returns-clause-ok : goal.returns-clause-ok

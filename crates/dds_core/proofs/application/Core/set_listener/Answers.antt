@@ -2,7 +2,7 @@ use Rattle.std.proofs.Common.{subst}
 use Rattle.std.specs.Prelude.{IfErr, IfOk}
 use Rattle.dds_core.specs.Listening.{CoreKept, RefusesListener, Sets}
 use Rattle.dds_core.proofs.Ended.{refuses_listener, sets}
-use Rattle.dds_core.proofs.Results.{err_as, ok_as}
+use Rattle.dds_ends.proofs.Results.{err_as, ok_as}
 use Rattle.dds_core.proofs.application.Core.set_listener.Goals as goal
 
 pub returns-clause-ok : goal.returns-clause-ok

@@ -1,10 +1,10 @@
 use Rattle.std.proofs.Common.{◌≡◌, ◌+◌, ◌++◌, ℕ, List, Option, Some, slice_get, sym, ap, subst, ◌∙◌, append-nil}
 use Rattle.std.proofs.lemmas.Option.{get_or_from_slice_get}
-use Rattle.dds_core.specs.Answering.{TakesAckNack, acknack_moves, listed}
+use Rattle.dds_ends.specs.Answering.{TakesAckNack, acknack_moves, listed}
 use Rattle.dds_machine.specs.declared.reply.Move.{Move}
 use Rattle.dds_core.specs.Kept.{PeerKept}
 use Rattle.dds_core.specs.declared.effects.Effects.{Effects}
-use Rattle.dds_core.specs.declared.sending.Announced.{Announced}
+use Rattle.dds_ends.specs.declared.sending.Announced.{Announced}
 use Rattle.dds_core.proofs.Ends.{with_writer}
 use Rattle.dds_core.proofs.Requesting.{row_took}
 use Rattle.dds_core.proofs.peer.Peer.answer_row.Goals.{in-Some, in_default}

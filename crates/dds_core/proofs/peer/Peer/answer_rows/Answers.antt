@@ -1,16 +1,16 @@
 use Rattle.std.proofs.Common.{◌≡◌, ◌+◌, ◌*◌, ◌<◌, ℕ, Some, None, length, slice_get, refl, sym, ◌∙◌, ap, subst, arith, rules, length-set}
 use Rattle.std.specs.Prelude.{Option}
 use Rattle.std.proofs.lemmas.Option.{same_Some}
-use Rattle.dds_core.specs.declared.answering.Room.{Room}
+use Rattle.dds_ends.specs.declared.answering.Room.{Room}
 use Rattle.dds_core.specs.declared.effects.Effects.{Effects}
 use Rattle.dds_core.specs.Answering.{TakesRows}
-use Rattle.dds_core.specs.Kept.{WriterKept}
-use Rattle.dds_core.specs.Identity.{WriterIdentity}
+use Rattle.dds_ends.specs.Kept.{WriterKept}
+use Rattle.dds_ends.specs.Identity.{WriterIdentity}
 use Rattle.dds_core.specs.Receiving.{GoOn}
 use Rattle.dds_core.proofs.EffectsLaws.{at_most, go_on, nothing_more}
 use Rattle.dds_core.proofs.Ready.{still_ready, rest_more}
 use Rattle.dds_core.proofs.Requesting.{rows_none, rows_skip, rows_more}
-use Rattle.dds_core.proofs.Results.{of_two}
+use Rattle.dds_ends.proofs.Results.{of_two}
 use Rattle.dds_core.proofs.peer.Peer.answer_rows.Goals.{in-Some, in_default}
 use Rattle.dds_core.proofs.peer.Peer.answer_rows.Goals as goal
 

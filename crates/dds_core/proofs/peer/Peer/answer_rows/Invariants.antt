@@ -1,6 +1,6 @@
 use Rattle.std.proofs.Common.{◌≡◌, ◌+◌, ◌*◌, ◌≤◌, Some, length, drop, slice_get}
 use Rattle.dds_core.specs.Answering.{TakesRows}
-use Rattle.dds_core.specs.Kept.{WriterKept}
+use Rattle.dds_ends.specs.Kept.{WriterKept}
 use Rattle.dds_core.specs.Receiving.{GoOn}
 use Rattle.dds_core.proofs.peer.Peer.answer_rows.Given as goal
 

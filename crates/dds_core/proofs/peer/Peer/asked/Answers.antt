@@ -1,8 +1,9 @@
 use Rattle.std.proofs.Common.{List, subst}
 use Rattle.std.specs.Prelude.{IfNone, IfSome}
 use Rattle.dds_core.specs.Answering.{AsksNone, IsAskedWriter}
-use Rattle.dds_core.specs.Kept.{PeerKept, WriterKept}
-use Rattle.dds_core.specs.Readiness.{receiver_at}
+use Rattle.dds_ends.specs.Kept.{WriterKept}
+use Rattle.dds_core.specs.Kept.{PeerKept}
+use Rattle.dds_ends.specs.Readiness.{receiver_at}
 use Rattle.dds_core.proofs.peer.Peer.asked.Goals as goal
 
 pub returns-clause-asked : goal.returns-clause-asked

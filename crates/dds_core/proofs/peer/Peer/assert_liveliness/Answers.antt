@@ -1,7 +1,7 @@
 use Rattle.std.proofs.Common.{◌<◌, List, length, sym, subst, rules, refl}
 use Rattle.std.proofs.lemmas.Option.{slice_get_read}
 use Rattle.dds_protocol.specs.declared.event.Packet.{Packet}
-use Rattle.dds_core.specs.Beating.{TellsOf}
+use Rattle.dds_ends.specs.Beating.{TellsOf}
 use Rattle.dds_core.proofs.AssertSteps.{asserts_at, asserts_sends, refuses_at}
 use Rattle.dds_core.proofs.CallSteps.{follows_as, still_stands}
 use Rattle.dds_core.proofs.peer.Peer.assert_liveliness.Goals as goal

@@ -1,8 +1,9 @@
 use Rattle.std.proofs.Common.{List, subst}
-use Rattle.dds_core.specs.Kept.{PeerKept, ReaderKept}
+use Rattle.dds_ends.specs.Kept.{ReaderKept}
+use Rattle.dds_core.specs.Kept.{PeerKept}
 use Rattle.dds_core.specs.Observing.{Sums}
 use Rattle.dds_core.specs.ObservingKept.{CountsOld}
-use Rattle.dds_core.specs.Readiness.{receiver_at}
+use Rattle.dds_ends.specs.Readiness.{receiver_at}
 use Rattle.dds_core.proofs.Counted.{old_to_readers}
 use Rattle.dds_core.proofs.peer.Peer.count_old.Goals as goal
 

@@ -1,7 +1,7 @@
 use Rattle.std.proofs.Common.{subst, sym}
 use Rattle.rtps_wire.specs.declared.submessage.Submessage.{Submessage}
 use Rattle.dds_core.specs.ObservingKept.{ToNobodyOf}
-use Rattle.dds_core.specs.Readiness.{receiver_at}
+use Rattle.dds_ends.specs.Readiness.{receiver_at}
 use Rattle.dds_core.proofs.peer.Peer.count_to_nobody.Goals as goal
 
 pub returns-in-AckNack-clause-nobody : goal.returns-in-AckNack-clause-nobody

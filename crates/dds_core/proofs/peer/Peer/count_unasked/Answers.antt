@@ -1,7 +1,8 @@
 use Rattle.std.proofs.Common.{List, subst}
-use Rattle.dds_core.specs.Kept.{PeerKept, WriterKept}
+use Rattle.dds_ends.specs.Kept.{WriterKept}
+use Rattle.dds_core.specs.Kept.{PeerKept}
 use Rattle.dds_core.specs.ObservingKept.{IsNamedWriter, NamesNoWriter}
-use Rattle.dds_core.specs.Readiness.{receiver_at}
+use Rattle.dds_ends.specs.Readiness.{receiver_at}
 use Rattle.dds_core.proofs.ToNobody.{nobody_asked, somebody_asked}
 use Rattle.dds_core.proofs.peer.Peer.count_unasked.Goals as goal
 

@@ -1,7 +1,8 @@
 use Rattle.std.proofs.Common.{List, subst}
-use Rattle.dds_core.specs.Kept.{PeerKept, ReaderKept}
+use Rattle.dds_ends.specs.Kept.{ReaderKept}
+use Rattle.dds_core.specs.Kept.{PeerKept}
 use Rattle.dds_core.specs.ObservingKept.{IsNamedReader, NamesNoReader}
-use Rattle.dds_core.specs.Readiness.{receiver_at}
+use Rattle.dds_ends.specs.Readiness.{receiver_at}
 use Rattle.dds_core.proofs.ToNobody.{nobody_named, says_nothing, somebody_named}
 use Rattle.dds_core.proofs.peer.Peer.count_unnamed.Goals as goal
 

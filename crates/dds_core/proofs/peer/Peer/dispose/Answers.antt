@@ -3,7 +3,7 @@ use Rattle.std.specs.Prelude.{ℕ}
 use Rattle.dds_base.specs.declared.change.ChangeKind.TheVariants as kind
 use Rattle.dds_machine.specs.declared.call.Call.TheVariants as call
 use Rattle.dds_core.specs.Making.{Makes}
-use Rattle.dds_core.specs.Standing.{IsShort}
+use Rattle.dds_ends.specs.Standing.{IsShort}
 use Rattle.dds_core.proofs.CallSteps.{dispose_at, made_steps, made_sends}
 use Rattle.dds_core.proofs.peer.Peer.dispose.Goals as goal
 

@@ -5,10 +5,11 @@ use Rattle.dds_base.specs.Written.{Changed}
 use Rattle.rtps_wire.specs.Content.{content_of}
 use Rattle.dds_machine.specs.Refusals.{change_made}
 use Rattle.dds_protocol.specs.declared.event.Packet.{Packet}
-use Rattle.dds_core.specs.Kept.{PeerKept, WriterKept}
+use Rattle.dds_ends.specs.Kept.{WriterKept}
+use Rattle.dds_core.specs.Kept.{PeerKept}
 use Rattle.dds_core.specs.Making.{IsNotMade}
-use Rattle.dds_core.specs.Announcing.{AreAnnouncements}
-use Rattle.dds_core.specs.Stepping.{Enters}
+use Rattle.dds_ends.specs.Announcing.{AreAnnouncements}
+use Rattle.dds_ends.specs.Stepping.{Enters}
 use Rattle.dds_core.proofs.Makes.{Carries, made, made_by, not_begun, not_made, writer_at}
 use Rattle.dds_core.proofs.CallSteps.{still_stands}
 use Rattle.dds_core.proofs.peer.Peer.make.Goals as goal

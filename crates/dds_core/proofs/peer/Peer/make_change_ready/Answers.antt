@@ -1,9 +1,10 @@
 use Rattle.std.proofs.Common.{◌≡◌, Some, set, ap, subst}
 use Rattle.rtps_wire.specs.declared.submessage.Submessage.TheVariants.{Data}
-use Rattle.dds_core.specs.Kept.{ReaderKept, PeerKept}
-use Rattle.dds_core.specs.Readiness.{receiver_at, IsAlike, change_ready}
+use Rattle.dds_ends.specs.Kept.{ReaderKept}
+use Rattle.dds_core.specs.Kept.{PeerKept}
+use Rattle.dds_ends.specs.Readiness.{receiver_at, IsAlike, change_ready}
 use Rattle.dds_core.proofs.LastReader.{here_now, last_ready, last_stands}
-use Rattle.dds_core.proofs.Results.{ok_as}
+use Rattle.dds_ends.proofs.Results.{ok_as}
 use Rattle.dds_core.proofs.peer.Peer.make_change_ready.Goals as goal
 
 pub returns-clause-ready : goal.returns-clause-ready

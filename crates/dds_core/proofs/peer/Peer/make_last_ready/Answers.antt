@@ -1,8 +1,9 @@
 use Rattle.std.proofs.Common.{◌≡◌, set, ap, subst}
-use Rattle.dds_core.specs.Kept.{ReaderKept, PeerKept}
-use Rattle.dds_core.specs.Readiness.{receiver_at, IsAlike}
+use Rattle.dds_ends.specs.Kept.{ReaderKept}
+use Rattle.dds_core.specs.Kept.{PeerKept}
+use Rattle.dds_ends.specs.Readiness.{receiver_at, IsAlike}
 use Rattle.dds_core.proofs.LastReader.{here_now, last_ready, last_stands}
-use Rattle.dds_core.proofs.Results.{ok_as}
+use Rattle.dds_ends.proofs.Results.{ok_as}
 use Rattle.dds_core.proofs.peer.Peer.make_last_ready.Goals as goal
 
 pub returns-clause-ready : goal.returns-clause-ready

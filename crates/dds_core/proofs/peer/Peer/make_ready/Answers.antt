@@ -1,8 +1,10 @@
 use Rattle.std.proofs.Common.{List, sym, ◌∙◌, subst}
 use Rattle.std.specs.Prelude.{OnOk}
 use Rattle.std.proofs.lemmas.List.{with_items_is}
-use Rattle.dds_core.specs.Kept.{ReaderKept, PeerKept}
-use Rattle.dds_core.specs.Readiness.{receiver_at, IsFirstNamed, AreReady, AreAlike}
+use Rattle.dds_ends.specs.Kept.{ReaderKept}
+use Rattle.dds_core.specs.Kept.{PeerKept}
+use Rattle.dds_ends.specs.Readiness.{receiver_at}
+use Rattle.dds_core.specs.Readiness.{IsFirstNamed, AreReady, AreAlike}
 use Rattle.dds_core.specs.Receiving.{StandsAsWell}
 use Rattle.dds_core.proofs.Ready.{alike_core}
 use Rattle.dds_core.proofs.peer.Peer.make_ready.Goals as goal

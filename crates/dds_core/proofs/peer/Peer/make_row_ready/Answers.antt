@@ -1,8 +1,9 @@
 use Rattle.std.proofs.Common.{◌≡◌, ◌<◌, Some, length, slice_get, ap, sym, subst, arith}
-use Rattle.dds_core.specs.Kept.{PeerKept, ReaderKept}
-use Rattle.dds_core.specs.Readiness.{IsAlike}
+use Rattle.dds_ends.specs.Kept.{ReaderKept}
+use Rattle.dds_core.specs.Kept.{PeerKept}
+use Rattle.dds_ends.specs.Readiness.{IsAlike}
 use Rattle.dds_core.proofs.LastReader.{here_now, last_stands}
-use Rattle.dds_core.proofs.Lists.{get-within}
+use Rattle.dds_ends.proofs.Lists.{get-within}
 use Rattle.dds_core.proofs.ResumedRows.{row_ready, rows_ready}
 use Rattle.dds_core.proofs.peer.Peer.make_row_ready.Goals as goal
 

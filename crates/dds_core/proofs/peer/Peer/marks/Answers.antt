@@ -1,6 +1,6 @@
 use Rattle.std.proofs.Common.{List, length, subst}
-use Rattle.dds_core.specs.Kept.{ReaderKept, WriterKept}
-use Rattle.dds_core.specs.Noticing.{MarksReaders, MarksWriters}
+use Rattle.dds_ends.specs.Kept.{ReaderKept, WriterKept}
+use Rattle.dds_ends.specs.Noticing.{MarksReaders, MarksWriters}
 use Rattle.dds_core.proofs.Notified.{marks_peer}
 use Rattle.dds_core.proofs.peer.Peer.marks.Goals as goal
 

@@ -1,7 +1,9 @@
 use Rattle.std.proofs.Common.{List, subst}
 use Rattle.std.specs.Prelude.{IfNone, IfSome}
-use Rattle.dds_core.specs.Kept.{PeerKept, ReaderKept}
-use Rattle.dds_core.specs.Readiness.{receiver_at, IsFirstNamed, NamesNone}
+use Rattle.dds_ends.specs.Kept.{ReaderKept}
+use Rattle.dds_core.specs.Kept.{PeerKept}
+use Rattle.dds_ends.specs.Readiness.{receiver_at}
+use Rattle.dds_core.specs.Readiness.{IsFirstNamed, NamesNone}
 use Rattle.dds_core.proofs.Turns.{needs_if}
 use Rattle.dds_core.proofs.peer.Peer.named.Goals as goal
 

@@ -2,7 +2,7 @@ use Rattle.std.proofs.Common.{ℕ, ◌-◌, arith}
 use Rattle.dds_machine.specs.Noticing.{data_raised, lost_raised, subscription_raised, turn_raised}
 use Rattle.dds_machine.proofs.InTurn.{data_told, lost_told, subscription_told, turn_told}
 use Rattle.dds_core.specs.Kept.{PeerKept}
-use Rattle.dds_core.specs.Noticing.{by_reader}
+use Rattle.dds_ends.specs.Noticing.{by_reader}
 use Rattle.dds_core.proofs.Notified.{end_found, tells_raised, tells_then}
 use Rattle.dds_core.proofs.peer.Peer.notify_reader.Goals as goal
 

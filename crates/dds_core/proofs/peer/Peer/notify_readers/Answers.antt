@@ -2,7 +2,7 @@ use Rattle.std.proofs.Common.{length, arith, rules, refl, ap, ◌∙◌}
 use Rattle.dds_machine.specs.Noticing.{reader_told}
 use Rattle.dds_machine.specs.Part.{own_proxies, own_reader}
 use Rattle.dds_core.specs.Kept.{PeerKept}
-use Rattle.dds_core.specs.Noticing.{IsMarkOf}
+use Rattle.dds_ends.specs.Noticing.{IsMarkOf}
 use Rattle.dds_core.proofs.Notified.{tells_all, tells_first, tells_marked}
 use Rattle.dds_core.proofs.peer.Peer.notify_readers.Goals as goal
 

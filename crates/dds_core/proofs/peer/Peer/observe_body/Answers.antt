@@ -1,6 +1,6 @@
 use Rattle.std.proofs.Common.{arith}
 use Rattle.rtps_wire.specs.Messages.{ReadsFirst}
-use Rattle.dds_core.specs.Readiness.{receiver_at}
+use Rattle.dds_ends.specs.Readiness.{receiver_at}
 use Rattle.dds_core.proofs.Counted.{observed_all, observed_more}
 use Rattle.dds_core.proofs.peer.Peer.observe_body.Goals as goal
 

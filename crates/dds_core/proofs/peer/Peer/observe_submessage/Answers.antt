@@ -1,5 +1,5 @@
 use Rattle.std.proofs.Common.{arith}
-use Rattle.dds_core.specs.Readiness.{receiver_at}
+use Rattle.dds_ends.specs.Readiness.{receiver_at}
 use Rattle.dds_core.proofs.Counted.{observed_data, observed_heartbeat, observed_other}
 use Rattle.dds_core.proofs.peer.Peer.observe_submessage.Goals as goal
 

@@ -1,7 +1,7 @@
 use Rattle.std.proofs.Common.{◌≡◌, ◌<◌, List, Some, length, slice_get, refl, sym, subst, rules}
 use Rattle.std.proofs.lemmas.Option.{slice_get_read}
-use Rattle.dds_core.specs.declared.matching.WriterName.{WriterName}
-use Rattle.dds_core.specs.Standing.{IsFirstRow}
+use Rattle.dds_ends.specs.declared.matching.WriterName.{WriterName}
+use Rattle.dds_ends.specs.Standing.{IsFirstRow}
 use Rattle.dds_core.proofs.CallSteps.{still_stands}
 use Rattle.dds_core.proofs.Pairs.{no_place, place_found}
 use Rattle.dds_core.proofs.peer.Peer.place.Goals as goal

@@ -7,7 +7,7 @@ use Rattle.dds_protocol.specs.declared.event.Output.{Output}
 use Rattle.dds_core.specs.Kept.{PeerKept}
 use Rattle.dds_core.specs.Resuming.{ResumesAll}
 use Rattle.dds_core.specs.Stepping.{SoundSteps}
-use Rattle.dds_core.specs.Twins.{Twins}
+use Rattle.dds_ends.specs.Twins.{Twins}
 use Rattle.dds_core.proofs.Taking.{no_messages}
 use Rattle.dds_core.proofs.TriedAgain.{resumes, resumes_none}
 use Rattle.dds_core.proofs.Twice.{plain_twin}

@@ -1,8 +1,9 @@
 use Rattle.std.proofs.Common.{◌≡◌, ◌<◌, ◌∙◌, true, false, length, ap, sym, subst, arith, rules}
-use Rattle.dds_core.specs.Kept.{PeerKept, ReaderKept}
+use Rattle.dds_ends.specs.Kept.{ReaderKept}
+use Rattle.dds_core.specs.Kept.{PeerKept}
 use Rattle.dds_core.proofs.EffectsLaws.{nothing_more}
 use Rattle.dds_core.proofs.LastReader.{here_now}
-use Rattle.dds_core.proofs.Lists.{get-within}
+use Rattle.dds_ends.proofs.Lists.{get-within}
 use Rattle.dds_core.proofs.ResumedRows.{goes_here, row_needs, tries_after, tries_none}
 use Rattle.dds_core.proofs.Watched.{on_err}
 use Rattle.dds_core.proofs.peer.Peer.resume_row.Goals as goal

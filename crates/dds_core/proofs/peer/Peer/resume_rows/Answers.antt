@@ -1,9 +1,9 @@
 use Rattle.std.proofs.Common.{◌≡◌, ◌<◌, ◌≤◌, List, refl, ap, sym, ◌∙◌, subst, arith, rules}
 use Rattle.dds_machine.specs.declared.reply.Move.{Move}
 use Rattle.dds_machine.specs.declared.reply.Report.{Report}
-use Rattle.dds_core.specs.declared.twin.Twin.{Twin}
-use Rattle.dds_core.specs.Twins.{wants_two}
-use Rattle.dds_core.proofs.Lists.{element}
+use Rattle.dds_ends.specs.declared.twin.Twin.{Twin}
+use Rattle.dds_ends.specs.Twins.{wants_two}
+use Rattle.dds_ends.proofs.Lists.{element}
 use Rattle.dds_core.proofs.ResumedRows.{TriesTo, count_is, has_row, rows_on, same_rows, tries_all, tries_first, tries_more, tries_some}
 use Rattle.dds_core.proofs.peer.Peer.resume_rows.Goals as goal
 

@@ -1,6 +1,6 @@
 use Rattle.std.proofs.Common.{◌≡◌, ◌≤◌}
 use Rattle.dds_core.specs.Resuming.{SameRows}
-use Rattle.dds_core.specs.Twins.{wants_two}
+use Rattle.dds_ends.specs.Twins.{wants_two}
 use Rattle.dds_core.proofs.ResumedRows.{TriesTo}
 use Rattle.dds_core.proofs.peer.Peer.resume_rows.Given as goal
 

@@ -5,7 +5,7 @@ use Rattle.std.specs.Int.{w32}
 use Rattle.std.proofs.lemmas.Int.{to_z-of_z}
 use Rattle.std.proofs.lemmas.Option.{slice_get_read}
 use Rattle.dds_base.specs.Written.{StrengthSet}
-use Rattle.dds_core.specs.Stepping.{Enters}
+use Rattle.dds_ends.specs.Stepping.{Enters}
 use Rattle.dds_core.proofs.CallSteps.{follows_as, still_stands}
 use Rattle.dds_core.proofs.StrengthSteps.{sets_at, shared_at}
 use Rattle.dds_core.proofs.peer.Peer.set_strength.Goals as goal

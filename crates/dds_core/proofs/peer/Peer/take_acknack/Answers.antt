@@ -1,10 +1,11 @@
 use Rattle.std.proofs.Common.{◌≡◌, ℕ, Some, length, get_or, slice_get, sym, ap, subst, ◌∙◌, arith}
 use Rattle.std.proofs.lemmas.Option.{get_or_from_slice_get}
 use Rattle.dds_base.specs.declared.guid.GuidPrefix.{GuidPrefix}
-use Rattle.dds_core.specs.Answering.{AreRooms}
-use Rattle.dds_core.specs.Kept.{PeerKept, WriterKept}
-use Rattle.dds_core.specs.Readiness.{receiver_at}
-use Rattle.dds_core.proofs.Lists.{get-within}
+use Rattle.dds_ends.specs.Answering.{AreRooms}
+use Rattle.dds_ends.specs.Kept.{WriterKept}
+use Rattle.dds_core.specs.Kept.{PeerKept}
+use Rattle.dds_ends.specs.Readiness.{receiver_at}
+use Rattle.dds_ends.proofs.Lists.{get-within}
 use Rattle.dds_core.proofs.Requesting.{have_room, nobody_takes, writer_takes}
 use Rattle.dds_core.proofs.RowsAnswered.{asked_needs}
 use Rattle.dds_core.proofs.Watched.{on_err}

@@ -1,15 +1,15 @@
 use Rattle.std.proofs.Common.{◌≡◌, ◌+◌, ◌<◌, ℕ, List, Some, None, drop, length, set, slice_get, get_or, refl, sym, ◌∙◌, ap, subst, arith, rules, length-set}
 use Rattle.std.specs.Prelude.{Option}
 use Rattle.smallvec.proofs.SmallVecLemmas.{items-with_items}
-use Rattle.dds_core.specs.declared.reader_told.Ready.{Ready}
+use Rattle.dds_ends.specs.declared.reader_told.Ready.{Ready}
 use Rattle.dds_core.specs.declared.effects.Effects.{Effects}
 use Rattle.dds_core.proofs.TakenSoFar.{TakesSome}
 use Rattle.dds_core.specs.Receiving.{GoOn}
 use Rattle.dds_core.proofs.EffectsLaws.{at_most, go_on, nothing_more}
 use Rattle.dds_core.proofs.Turns.{takes_none, takes_skip, takes_more}
 use Rattle.dds_core.proofs.Ready.{takes_all, still_ready, rest_more}
-use Rattle.dds_core.proofs.Results.{of_two}
-use Rattle.dds_core.proofs.Lists.{left_at}
+use Rattle.dds_ends.proofs.Results.{of_two}
+use Rattle.dds_ends.proofs.Lists.{left_at}
 use Rattle.dds_core.proofs.peer.Peer.take_all.Goals.{in-Some, in_default}
 use Rattle.dds_core.proofs.peer.Peer.take_all.Goals as goal
 

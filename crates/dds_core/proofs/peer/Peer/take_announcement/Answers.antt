@@ -1,6 +1,6 @@
 use Rattle.std.proofs.Common.{ap}
 use Rattle.dds_core.specs.Kept.{PeerKept}
-use Rattle.dds_core.specs.Readiness.{receiver_at}
+use Rattle.dds_ends.specs.Readiness.{receiver_at}
 use Rattle.dds_core.proofs.TakenAtOnce.{announcement_refused, announcement_taken, comes_to_change}
 use Rattle.dds_core.proofs.peer.Peer.take_announcement.Goals as goal
 

@@ -2,7 +2,7 @@ use Rattle.std.proofs.Common.{◌≡◌, ℕ, Some, slice_get, sym, ◌∙◌, a
 use Rattle.std.proofs.lemmas.Option.{get_or_from_slice_get}
 use Rattle.rtps_reader.specs.Tracked.{Tracked}
 use Rattle.dds_core.specs.Kept.{PeerKept}
-use Rattle.dds_core.specs.Readiness.{IsPlaceAt}
+use Rattle.dds_ends.specs.Readiness.{IsPlaceAt}
 use Rattle.dds_core.proofs.Ends.{with_reader}
 use Rattle.dds_core.proofs.Ready.{took_by}
 use Rattle.dds_core.proofs.peer.Peer.take_at.Goals as goal

@@ -3,7 +3,7 @@ use Rattle.dds_base.specs.declared.guid.GuidPrefix.{GuidPrefix}
 use Rattle.rtps_wire.specs.declared.submessage.Submessage.TheVariants.{InfoDst, InfoTs}
 use Rattle.dds_protocol.specs.Claims.{after_submessage}
 use Rattle.dds_core.specs.Kept.{PeerKept}
-use Rattle.dds_core.specs.Readiness.{receiver_at}
+use Rattle.dds_ends.specs.Readiness.{receiver_at}
 use Rattle.dds_core.proofs.Framed.{needs_if_other, takes_for_receiver, takes_other_if}
 use Rattle.dds_core.proofs.Taking.{bounded}
 use Rattle.dds_core.proofs.peer.Peer.take_frame.Goals as goal

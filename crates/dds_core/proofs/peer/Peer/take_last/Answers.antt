@@ -1,5 +1,5 @@
 use Rattle.std.proofs.Common.{Option, Some, ap, sym, ◌∙◌, subst}
-use Rattle.dds_core.specs.declared.reader_told.Ready.{Ready}
+use Rattle.dds_ends.specs.declared.reader_told.Ready.{Ready}
 use Rattle.dds_core.specs.Receiving.{TakesAll, only_last}
 use Rattle.dds_core.proofs.LastReader.{last_idle, last_there}
 use Rattle.dds_core.proofs.peer.Peer.take_last.Goals as goal

@@ -1,7 +1,7 @@
 use Rattle.std.proofs.Common.{◌<◌, length, ap, arith}
 use Rattle.dds_core.specs.Kept.{PeerKept}
 use Rattle.dds_core.proofs.LastReader.{last_told}
-use Rattle.dds_core.proofs.Lists.{element}
+use Rattle.dds_ends.proofs.Lists.{element}
 use Rattle.dds_core.proofs.peer.Peer.take_last_one.Goals as goal
 
 pub returns-clause-takes : goal.returns-clause-takes

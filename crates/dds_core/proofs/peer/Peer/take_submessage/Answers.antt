@@ -1,5 +1,5 @@
 use Rattle.std.proofs.Common.{◌^◌, arith}
-use Rattle.dds_core.specs.Readiness.{receiver_at}
+use Rattle.dds_ends.specs.Readiness.{receiver_at}
 use Rattle.dds_core.proofs.EffectsLaws.{at_most}
 use Rattle.dds_core.proofs.Taking.{readers_take_if}
 use Rattle.dds_core.proofs.peer.Peer.take_submessage.Goals as goal

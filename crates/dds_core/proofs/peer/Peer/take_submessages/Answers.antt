@@ -5,9 +5,9 @@ use Rattle.dds_machine.specs.declared.reply.Move.{Move}
 use Rattle.dds_machine.specs.declared.reply.Report.{Report}
 use Rattle.dds_protocol.specs.Claims.{Receiver, after_submessage}
 use Rattle.std.specs.Prelude.{List}
-use Rattle.dds_core.specs.declared.twin.Twin.{Twin}
-use Rattle.dds_core.specs.Twins.{wants_two}
-use Rattle.dds_core.specs.Readiness.{receiver_at}
+use Rattle.dds_ends.specs.declared.twin.Twin.{Twin}
+use Rattle.dds_ends.specs.Twins.{wants_two}
+use Rattle.dds_ends.specs.Readiness.{receiver_at}
 use Rattle.dds_core.proofs.TakenSoFar.{TakesTo}
 use Rattle.dds_core.proofs.Taking.{no_messages, takes_none, takes_more, takes_all, takes_some, rest_octets}
 use Rattle.dds_core.proofs.peer.Peer.take_submessages.Goals as goal

@@ -1,9 +1,9 @@
 use Rattle.std.proofs.Common.{◌≡◌, ◌+◌, ◌≤◌, ◌*◌, ◌^◌, length}
 use Rattle.dds_base.proofs.FieldLaws.{AreOctets}
-use Rattle.dds_core.specs.Readiness.{receiver_at}
+use Rattle.dds_ends.specs.Readiness.{receiver_at}
 use Rattle.dds_core.proofs.TakenSoFar.{TakesTo}
-use Rattle.dds_core.specs.Sending.{AreMessages}
-use Rattle.dds_core.specs.Twins.{wants_two}
+use Rattle.dds_ends.specs.Sending.{AreMessages}
+use Rattle.dds_ends.specs.Twins.{wants_two}
 use Rattle.dds_core.proofs.peer.Peer.take_submessages.Given as goal
 
 abbrev pub invariant-loop-frame : goal.invariant-loop-frame

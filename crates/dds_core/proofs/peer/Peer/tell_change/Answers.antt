@@ -1,6 +1,6 @@
 use Rattle.std.proofs.Common.{Some}
 use Rattle.rtps_wire.specs.declared.submessage.Submessage.TheVariants.{Data}
-use Rattle.dds_core.specs.Readiness.{receiver_at, change_ready}
+use Rattle.dds_ends.specs.Readiness.{receiver_at, change_ready}
 use Rattle.dds_core.specs.Receiving.{only_last}
 use Rattle.dds_core.proofs.LastReader.{last_there}
 use Rattle.dds_core.proofs.Ready.{all_can}

@@ -1,4 +1,4 @@
-use Rattle.dds_core.specs.Readiness.{receiver_at}
+use Rattle.dds_ends.specs.Readiness.{receiver_at}
 use Rattle.dds_core.proofs.Ready.{all_can}
 use Rattle.dds_core.proofs.Turns.{tells_readers}
 use Rattle.dds_core.proofs.peer.Peer.tell_each.Goals as goal

@@ -1,7 +1,7 @@
 use Rattle.std.proofs.Common.{◌≤◌, length, subst, arith}
 use Rattle.dds_core.specs.Kept.{PeerKept}
-use Rattle.dds_core.specs.Readiness.{receiver_at}
-use Rattle.dds_core.proofs.Lists.{get-within}
+use Rattle.dds_ends.specs.Readiness.{receiver_at}
+use Rattle.dds_ends.proofs.Lists.{get-within}
 use Rattle.dds_core.proofs.Turns.{nobody_told}
 use Rattle.dds_core.proofs.peer.Peer.tell_readers.Goals as goal
 

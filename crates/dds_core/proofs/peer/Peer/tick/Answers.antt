@@ -3,13 +3,14 @@ use Rattle.std.proofs.lemmas.List.{with_items_is}
 use Rattle.dds_base.specs.declared.code.Code.TheVariants.{Memory}
 use Rattle.dds_protocol.specs.declared.event.Event.TheVariants as event
 use Rattle.dds_protocol.specs.declared.event.Packet.{Packet}
-use Rattle.dds_core.specs.Beating.{BeatsOfAll}
-use Rattle.dds_core.specs.Expiring.{AllExpire, HasPastCounting}
-use Rattle.dds_core.specs.Kept.{PeerKept, ReaderKept, WriterKept}
-use Rattle.dds_core.specs.Stepping.{AllTick}
+use Rattle.dds_ends.specs.Beating.{BeatsOfAll}
+use Rattle.dds_ends.specs.Expiring.{AllExpire, HasPastCounting}
+use Rattle.dds_ends.specs.Kept.{ReaderKept, WriterKept}
+use Rattle.dds_core.specs.Kept.{PeerKept}
+use Rattle.dds_ends.specs.Stepping.{AllTick}
 use Rattle.dds_core.proofs.BeatsDue.{due_sent}
 use Rattle.dds_core.proofs.CallSteps.{Follows, follows_as, tick_past_counting, ticks, still_stands}
-use Rattle.dds_core.proofs.Lists.{written_back}
+use Rattle.dds_ends.proofs.Lists.{written_back}
 use Rattle.dds_core.proofs.peer.Peer.tick.Goals as goal
 
 -- nobody has died, and all stands as before

@@ -3,7 +3,7 @@ use Rattle.std.proofs.lemmas.Option.{slice_get_read}
 use Rattle.dds_base.specs.Number.{is_number}
 use Rattle.dds_machine.specs.declared.call.Call.TheVariants as call
 use Rattle.dds_protocol.specs.declared.event.Event.TheVariants as event
-use Rattle.dds_core.specs.declared.matching.WriterName.{WriterName}
+use Rattle.dds_ends.specs.declared.matching.WriterName.{WriterName}
 use Rattle.dds_core.specs.Kept.{PeerKept}
 use Rattle.dds_core.proofs.CallSteps.{Follows, follows_as, still_stands}
 use Rattle.dds_core.proofs.MatchedWriters.{met_again, no_reader_unmatched, no_writer_unmatched, row_again, unmatched_already, unmatched_past, unmatches_writer}

@@ -5,10 +5,12 @@ use Rattle.dds_base.specs.declared.config.Config.{Config}
 use Rattle.dds_machine.specs.declared.call.Call.TheVariants as call
 use Rattle.dds_protocol.specs.declared.event.Event.TheVariants as event
 use Rattle.dds_protocol.specs.Peer.{Peer}
-use Rattle.dds_core.specs.Kept.{WriterKept, PeerKept}
+use Rattle.dds_ends.specs.Kept.{WriterKept}
+use Rattle.dds_core.specs.Kept.{PeerKept}
 use Rattle.dds_core.specs.Making.{Makes}
 use Rattle.dds_core.specs.Stepping.{Sends}
-use Rattle.dds_core.specs.Standing.{IsShort, StandsFor, WriterStands}
+use Rattle.dds_ends.specs.Standing.{IsShort, WriterStands}
+use Rattle.dds_core.specs.Standing.{StandsFor}
 use Rattle.dds_core.specs.Stepping.{Steps}
 use Rattle.dds_core.proofs.CallSteps.{follows_as, unregister_at, unregistered_at, made_steps, made_sends}
 use Rattle.dds_core.proofs.peer.Peer.unregister.Goals as goal

@@ -1,8 +1,9 @@
 use Rattle.std.proofs.Common.{◌≡◌, ◌<◌, Some, length, slice_get, subst, ap, rules, arith, refl}
 use Rattle.std.proofs.lemmas.Option.{same_Some, slice_get_read}
 use Rattle.dds_machine.specs.declared.call.Call.TheVariants as call
-use Rattle.dds_core.specs.Kept.{PeerKept, WriterKept}
-use Rattle.dds_core.specs.Standing.{IsShort}
+use Rattle.dds_ends.specs.Kept.{WriterKept}
+use Rattle.dds_core.specs.Kept.{PeerKept}
+use Rattle.dds_ends.specs.Standing.{IsShort}
 use Rattle.dds_core.proofs.CallSteps.{follows_as, long_at, write_at, made_steps, made_sends}
 use Rattle.dds_core.proofs.peer.Peer.write.Goals as goal
 

@@ -1,5 +1,0 @@
-use Rattle.dds_core.proofs.Dying.{ExpiredTo}
-use Rattle.dds_core.proofs.expiring.expire_all.Given as goal
-
-abbrev pub invariant-loop-index : goal.invariant-loop-index
-invariant-loop-index l = ExpiredTo l.fn.now l.index l.initial.readers l.readers

@@ -1,8 +1,0 @@
-use Rattle.std.proofs.Common.{take}
-use Rattle.dds_core.proofs.ByName.{Pushed}
-use Rattle.dds_core.proofs.heartbeat.push_matched.Given as goal
-
-abbrev pub invariant-loop-name : goal.invariant-loop-name
-invariant-loop-name l =
-    Pushed l.fn.beat l.fn.writer l.fn.readers (λ w answered. take l.name-index l.fn.matched) l.name-index l.fn.peer
-    l.initial.submessages l.submessages

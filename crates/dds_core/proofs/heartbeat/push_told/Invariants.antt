@@ -1,7 +1,0 @@
-use Rattle.dds_core.proofs.ByName.{Pushed, told_before}
-use Rattle.dds_core.proofs.heartbeat.push_told.Given as goal
-
-abbrev pub invariant-loop-row : goal.invariant-loop-row
-invariant-loop-row l =
-    Pushed l.fn.beat l.fn.writer l.fn.readers (told_before l.fn.readers l.row) l.row l.fn.peer l.initial.submessages
-    l.submessages

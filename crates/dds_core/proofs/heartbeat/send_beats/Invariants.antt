@@ -1,5 +1,0 @@
-use Rattle.dds_core.proofs.Beating.{SentBefore}
-use Rattle.dds_core.proofs.heartbeat.send_beats.Given as goal
-
-abbrev pub invariant-loop-row : goal.invariant-loop-row
-invariant-loop-row l = SentBefore l.fn.beat l.fn.writer l.fn.readers l.row l.initial.sent l.sent

@@ -1,6 +1,0 @@
-use Rattle.std.proofs.Common.{◌≡◌, map, take}
-use Rattle.dds_core.specs.MatchedEnds.{first_count}
-use Rattle.dds_core.proofs.matching.first_counts.Given as goal
-
-abbrev pub invariant-loop-name : goal.invariant-loop-name
-invariant-loop-name l = l.all.items ≡ map first_count (take l.name-index l.fn.readers)

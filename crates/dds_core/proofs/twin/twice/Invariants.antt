@@ -1,9 +1,0 @@
-use Rattle.std.proofs.Common.{◌≡◌}
-use Rattle.dds_core.specs.Twins.{Leaves}
-use Rattle.dds_core.proofs.twin.twice.Given as goal
-
-abbrev pub invariant-loop-packet : goal.invariant-loop-packet
-invariant-loop-packet l = record {
-  leaves : Leaves l.yielded l.first.items;
-  same : l.second.items ≡ l.first.items;
-}

@@ -1,6 +1,0 @@
-use Rattle.std.proofs.Common.{◌≡◌, drop}
-use Rattle.dds_core.specs.MatchedEnds.{known_as}
-use Rattle.dds_core.proofs.writer_end.WriterEnd.knows.Given as goal
-
-abbrev pub invariant-loop-row : goal.invariant-loop-row
-invariant-loop-row l = known_as l.self.known l.reader ≡ known_as (drop l.row l.self.known) l.reader

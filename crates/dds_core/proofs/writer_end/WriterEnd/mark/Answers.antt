@@ -1,9 +1,0 @@
-use Rattle.std.proofs.Common.{◌∙◌, arith}
-use Rattle.dds_core.proofs.Among.{few_matched}
-use Rattle.dds_core.proofs.writer_end.WriterEnd.mark.Goals as goal
-
-pub overflow_cast-result : goal.overflow_cast-result
-overflow_cast-result c =
-    let few = few_matched c.self.invariant in
-    let size = c.len.ensures ∙ c.self.inside.matched.ok.0 in
-    omega (arith, few, size)

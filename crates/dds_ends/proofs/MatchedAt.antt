@@ -1,0 +1,220 @@
+-- Whom a writer is matched with: by the configuration at the opening, and where names stand among others.
+use Rattle.std.proofs.Common.{◌≡◌, ℕ, zero, suc, ◌+◌, ◌-◌, Bool, true, false, ◌||◌, List, [], ◌∷◌, Some, Contains, slice_get, refl, ap, sym, ◌∙◌, subst, arith, ⊎_elim}
+use Rattle.std.proofs.lemmas.Option.{same_Some}
+use Rattle.dds_base.specs.declared.config.PeerConfig.{PeerConfig}
+use Rattle.dds_base.specs.declared.config.ReaderConfig.{ReaderConfig}
+use Rattle.dds_base.specs.Matched.{any_reader, is_reliable_reader}
+use Rattle.dds_base.specs.declared.endpoint.Endpoint.{Endpoint}
+use Rattle.dds_machine.specs.Part.{peers_of, same_endpoint}
+use Rattle.dds_machine.proofs.Tables.{same_is}
+use Rattle.dds_protocol.proofs.Composed.{front_or_rest}
+use Rattle.dds_protocol.proofs.InOrder.{same_self}
+use Rattle.dds_ends.specs.declared.matching.ReaderName.{ReaderName}
+use Rattle.dds_ends.specs.declared.matching.TopicName.{TopicName}
+use Rattle.dds_ends.specs.EndNames.{all_names, reader_name, reader_names, topic_name, topic_names}
+use Rattle.dds_ends.specs.Matching.{destinations}
+use Rattle.dds_ends.specs.MatchedEnds.{AreMatchedNow, AreNamedOnce, IsNameOf, IsReliableName, is_named, readers_of}
+use Rattle.dds_ends.proofs.Destinations.{among_at, is_peer, peers_are}
+use Rattle.dds_ends.proofs.Lists.{map-get}
+use Rattle.dds_ends.proofs.Named.{told}
+use Rattle.dds_ends.proofs.Numbered.{is_told}
+use Rattle.dds_ends.proofs.Once.{Once}
+use Rattle.dds_ends.proofs.Tables.{map-matched_readers}
+
+-- ---- names among others
+
+or_first : (a b : Bool) → (a || b) ≡ false → a ≡ false
+or_first true b h = absurd cc
+or_first false b h = refl
+
+or_rest : (a b : Bool) → (a || b) ≡ false → b ≡ false
+or_rest true b h = absurd cc
+or_rest false b h = h
+
+no_both : (b : Bool) → b ≡ false → b ≡ true → ⊥
+no_both true f g = absurd cc
+no_both false f g = absurd cc
+
+-- whose name stands there is named
+pub named_there : (names : List ReaderName) (row : ℕ) (name : ReaderName) (reader : Endpoint)
+    → slice_get names row ≡ Some name → name.reader ≡ reader → is_named names reader ≡ true
+named_there [] row name reader at is = absurd cc
+named_there (n ∷ ns) zero name reader at is =
+    ap (λ (b : Bool). b || is_named ns reader)
+    (ap (λ (e : Endpoint). same_endpoint e reader) (ap (λ (x : ReaderName). x.reader) (same_Some n name at) ∙ is)
+    ∙ same_self reader)
+named_there (n ∷ ns) (suc row) name reader at is =
+    late (same_endpoint n.reader reader) (named_there ns row name reader at is)
+  where
+    late : (b : Bool) → is_named ns reader ≡ true → (b || is_named ns reader) ≡ true
+    late true h = refl
+    late false h = h
+
+pub not_named : (names : List ReaderName) (row : ℕ) (name : ReaderName) (reader : Endpoint)
+    → slice_get names row ≡ Some name → name.reader ≡ reader → is_named names reader ≡ false → ⊥
+not_named names row name reader at is none =
+    no_both (is_named names reader) none (named_there names row name reader at is)
+
+-- where the name of one that is named stands
+pub named_at : (names : List ReaderName) (reader : Endpoint) → is_named names reader ≡ true
+    → (k : ℕ) × (n : ReaderName) × (slice_get names k ≡ Some n) × (n.reader ≡ reader)
+named_at [] reader is = absurd cc
+named_at (n ∷ ns) reader is = by (same_endpoint n.reader reader) refl is (λ h. named_at ns reader h)
+  where
+    by : (b : Bool) → same_endpoint n.reader reader ≡ b → (b || is_named ns reader) ≡ true
+        → (is_named ns reader ≡ true
+        → (k : ℕ) × (m : ReaderName) × (slice_get ns k ≡ Some m) × (m.reader ≡ reader))
+        → (k : ℕ) × (m : ReaderName) × (slice_get (n ∷ ns) k ≡ Some m) × (m.reader ≡ reader)
+    by true e h later = (zero, n, refl, same_is n.reader reader e)
+    by false e h later = let f = later h in (suc f.0, f.1, f.2, f.3)
+
+pub named_is : (names : List ReaderName) (reader : Endpoint) → Contains (readers_of names) reader
+    → is_named names reader ≡ true
+named_is [] reader among = let lt = among.1 in absurd (omega (arith, lt))
+named_is (n ∷ ns) reader among =
+    ⊎_elim
+    (λ e. ap (λ (b : Bool). b || is_named ns reader)
+    (ap (λ (x : Endpoint). same_endpoint x reader) e ∙ same_self reader))
+    (λ later. late (same_endpoint n.reader reader) (named_is ns reader later))
+    (front_or_rest n.reader (readers_of ns) reader among.0 among.1 among.2)
+  where
+    late : (b : Bool) → is_named ns reader ≡ true → (b || is_named ns reader) ≡ true
+    late true h = refl
+    late false h = h
+
+-- that each is named once, by where they stand
+pub once_named : (names : List ReaderName) → Once (λ (n : ReaderName). n.reader) names → AreNamedOnce names
+once_named [] once = tt
+once_named (n ∷ ns) once = (
+  none (is_named ns n.reader) refl,
+  once_named ns (λ j k x y at_x at_y same.
+      let e = once (suc j) (suc k) x y at_x at_y same in omega (arith, e)),
+)
+  where
+    none : (b : Bool) → is_named ns n.reader ≡ b → is_named ns n.reader ≡ false
+    none true is =
+        let f = named_at ns n.reader is in
+        let e = once zero (suc f.0) n f.1 refl f.2 (sym f.3) in absurd (omega (arith, e))
+    none false is = is
+
+pub once_at : (names : List ReaderName) → AreNamedOnce names → Once (λ (n : ReaderName). n.reader) names
+once_at [] once j k x y at_x at_y same = absurd cc
+once_at (n ∷ ns) once zero zero x y at_x at_y same = refl
+once_at (n ∷ ns) once zero (suc k) x y at_x at_y same =
+    absurd (not_named ns k y n.reader at_y (sym (ap (λ (m : ReaderName). m.reader) (same_Some n x at_x) ∙ same)) once.0)
+once_at (n ∷ ns) once (suc j) zero x y at_x at_y same =
+    absurd (not_named ns j x n.reader at_x (same ∙ sym (ap (λ (m : ReaderName). m.reader) (same_Some n y at_y))) once.0)
+once_at (n ∷ ns) once (suc j) (suc k) x y at_x at_y same = ap suc (once_at ns once.1 j k x y at_x at_y same)
+
+-- ---- at the opening
+
+-- an end, by the numbers that it has
+end_as : (e : Endpoint) (peer number : ℕ) → peer ≡ e.peer → number ≡ e.number
+    → ◌≡◌ {A = Endpoint} (record { peer = peer; number = number }) e
+end_as e peer number p n = by peer e.peer number e.number p n
+  where
+    by : (a b c d : ℕ) → a ≡ b → c ≡ d
+        → ◌≡◌ {A = Endpoint} (record { peer = a; number = c }) (record { peer = b; number = d })
+    by a b c d p n = cc
+
+-- a reader of the topic
+any_opened : (peers : List PeerConfig) (topic k : ℕ) (name : ReaderName)
+    → slice_get (all_names topic peers) k ≡ Some name → IsNameOf peers topic name
+any_opened peers topic k name at =
+    let t =
+    is_told peers (λ (p : PeerConfig). p.readers) any_reader (λ (r : ReaderConfig). r.topic) reader_name topic k name
+    at in
+    subst (λ (x : ReaderName). IsNameOf peers topic x) t.told
+    (record {
+      is = record {
+        peer = t.peer;
+        at_peer = t.at_peer;
+        end = t.end;
+        at_reader = t.at_end;
+        same_topic = t.same_topic;
+      };
+      same_prefix = refl;
+      same_entity = refl;
+    })
+
+-- a reliable one
+name_opened : (peers : List PeerConfig) (topic k : ℕ) (name : ReaderName)
+    → slice_get (reader_names topic peers) k ≡ Some name → IsReliableName peers topic name
+name_opened peers topic k name at =
+    let t =
+    is_told peers (λ (p : PeerConfig). p.readers) is_reliable_reader (λ (r : ReaderConfig). r.topic) reader_name topic k
+    name at in
+    subst (λ (x : ReaderName). IsReliableName peers topic x) t.told
+    (record {
+      name_is = record {
+        is = record {
+          peer = t.peer;
+          at_peer = t.at_peer;
+          end = t.end;
+          at_reader = t.at_end;
+          same_topic = t.same_topic;
+        };
+        same_prefix = refl;
+        same_entity = refl;
+      };
+      reliable = t.wanted;
+    })
+
+-- this name is of a reader of the topic, which is reliable or not
+abbrev pub IsNamedSo : List PeerConfig → ℕ → ReaderName → Bool → Type 0
+IsNamedSo peers topic name true = IsReliableName peers topic name
+IsNamedSo peers topic name false = IsNameOf peers topic name
+
+-- what is known of a reader of the topic is so
+pub known_opened : (peers : List PeerConfig) (topic k : ℕ) (known : TopicName)
+    → slice_get (topic_names topic peers) k ≡ Some known → IsNamedSo peers topic known.name known.is_reliable
+known_opened peers topic k known at =
+    let t =
+    is_told peers (λ (p : PeerConfig). p.readers) any_reader (λ (r : ReaderConfig). r.topic) topic_name topic k known
+    at in
+    subst (λ (x : TopicName). IsNamedSo peers topic x.name x.is_reliable) t.told
+    (by (is_reliable_reader t.end) (reader_name t.number t.peer t.end_number t.end) t.end (record {
+      is = record {
+        peer = t.peer;
+        at_peer = t.at_peer;
+        end = t.end;
+        at_reader = t.at_end;
+        same_topic = t.same_topic;
+      };
+      same_prefix = refl;
+      same_entity = refl;
+    }) refl refl)
+  where
+    by : (b : Bool) (name : ReaderName) (end : ReaderConfig) (is : IsNameOf peers topic name) → is.is.end ≡ end
+        → is_reliable_reader end ≡ b → IsNamedSo peers topic name b
+    by true name end is same reliable =
+        record { name_is = is; reliable = ap (λ (r : ReaderConfig). is_reliable_reader r) same ∙ reliable }
+    by false name end is same reliable = is
+
+-- is a matched reader
+pub matched_opened : (peers : List PeerConfig) (topic k : ℕ) (name : ReaderName)
+    → slice_get (reader_names topic peers) k ≡ Some name → Contains (readers_of (all_names topic peers)) name.reader
+matched_opened peers topic k name at =
+    let n = (name_opened peers topic k name at).name_is in
+    let there =
+    told (λ (p : PeerConfig). p.readers) any_reader (λ (r : ReaderConfig). r.topic) reader_name topic 1 peers
+    (name.reader.peer - 1) n.is.peer (name.reader.number - 1) n.is.end n.is.at_peer.1 n.is.at_reader.1 refl
+    n.is.same_topic in
+    let low = n.is.at_peer.0 in
+    let above = n.is.at_reader.0 in
+    subst (λ (e : Endpoint). Contains (readers_of (all_names topic peers)) e)
+    (end_as name.reader (1 + (name.reader.peer - 1)) (1 + (name.reader.number - 1)) (omega (arith, low))
+    (omega (arith, above)))
+    (among_at (readers_of (all_names topic peers)) there.0 _
+    (map-get (λ (x : ReaderName). x.reader) (all_names topic peers) there.0 _ there.1))
+
+pub ends_opened : (peers : List PeerConfig) (topic : ℕ)
+    → AreMatchedNow peers topic (all_names topic peers) (destinations topic 1 peers) (reader_names topic peers)
+ends_opened peers topic = record {
+  readers = λ k n at. any_opened peers topic k n at;
+  sent_to =
+      ap (λ (es : List Endpoint). peers_of es)
+      (map-matched_readers (λ (n : ReaderName). n.reader) reader_name topic 1 peers) ∙ peers_are topic 1 peers;
+  prefixes = λ k d at. is_peer peers topic k d at;
+  named = λ k n at. name_opened peers topic k n at;
+}

@@ -1,0 +1,10 @@
+use Rattle.std.proofs.Common.{◌≡◌, ◌≤◌, ◌+◌, ◌++◌, drop, length}
+use Rattle.dds_ends.specs.Matching.{destinations}
+use Rattle.dds_ends.proofs.matching.destinations.Given as goal
+
+abbrev pub invariant-loop-index : goal.invariant-loop-index
+invariant-loop-index l = record {
+  names : l.all.items ++ destinations l.fn.topic (l.index + 1) (drop l.index l.fn.peers)
+      ≡ destinations l.fn.topic 1 l.fn.peers;
+  few : length l.all.items ≤ l.index;
+}

@@ -1,0 +1,13 @@
+use Rattle.std.proofs.Common.{◌≡◌, ◌+◌, ◌≤◌, ◌++◌, drop, length}
+use Rattle.dds_base.specs.MatchedAt.{of_readers_in}
+use Rattle.dds_ends.specs.EndNames.{reader_name}
+use Rattle.dds_ends.proofs.matching.push_readers.Given as goal
+
+abbrev pub invariant-loop-index : goal.invariant-loop-index
+invariant-loop-index l = record {
+  rows : l.all.items ++ of_readers_in (reader_name l.fn.number l.fn.peer) l.fn.topic (l.index + 1)
+      (drop l.index l.fn.peer.readers) ≡ l.initial.all.items ++ of_readers_in
+      (reader_name l.fn.number l.fn.peer) l.fn.topic 1 l.fn.peer.readers;
+  few : length l.all.items ≤ length l.initial.all.items + l.index;
+  whole : l.reader-items ≡ l.fn.peer.readers;
+}

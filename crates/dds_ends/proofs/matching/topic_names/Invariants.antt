@@ -1,0 +1,11 @@
+use Rattle.std.proofs.Common.{◌≡◌, ◌+◌, ◌*◌, ◌≤◌, ◌++◌, drop, length}
+use Rattle.dds_base.specs.Matched.{of_matched_readers}
+use Rattle.dds_ends.specs.EndNames.{topic_name, topic_names}
+use Rattle.dds_ends.proofs.matching.topic_names.Given as goal
+
+abbrev pub invariant-loop-index : goal.invariant-loop-index
+invariant-loop-index l = record {
+  names : l.all.items ++ of_matched_readers topic_name l.fn.topic (l.index + 1) (drop l.index l.fn.peers)
+      ≡ topic_names l.fn.topic l.fn.peers;
+  few : length l.all.items ≤ 16 * l.index;
+}

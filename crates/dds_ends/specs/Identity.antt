@@ -1,0 +1,100 @@
+-- What stays of what a writer and a reader keep, and what the configuration says of it. Inner functions alone cite
+-- this: nothing here has to be believed.
+--
+-- RTPS 2.5, 8.2 (Endpoint).
+use Rattle.std.specs.Prelude.{◌≡◌, ◌≤◌, ℕ, Bool, List, length, map}
+use Rattle.dds_base.specs.declared.config.PeerConfig.{PeerConfig}
+use Rattle.dds_base.specs.declared.config.WriterConfig.{WriterConfig}
+use Rattle.dds_base.specs.declared.config.ReaderConfig.{ReaderConfig}
+use Rattle.dds_base.specs.declared.guid.EntityId.{EntityId}
+use Rattle.dds_base.specs.Bounds.{max_readers}
+use Rattle.dds_base.specs.Matched.{is_reliable, is_reliable_reader}
+use Rattle.dds_cache.specs.Standing.{qos_of}
+use Rattle.dds_lease.specs.Standing.{writer_count}
+use Rattle.rtps_reader.specs.Reader.{Proxies, count_of}
+use Rattle.dds_ends.specs.Stored.{StoreKept}
+use Rattle.dds_ends.specs.declared.matching.Destination.{Destination}
+use Rattle.dds_ends.specs.declared.matching.LastCount.{LastCount}
+use Rattle.dds_ends.specs.declared.matching.ReaderName.{ReaderName}
+use Rattle.dds_ends.specs.declared.matching.TopicName.{TopicName}
+use Rattle.dds_ends.specs.declared.matching.WriterName.{WriterName}
+use Rattle.dds_ends.specs.Matching.{destinations}
+use Rattle.dds_ends.specs.MatchedEnds.{AreMatchedNow, first_count}
+use Rattle.dds_ends.specs.EndNames.{all_names, reader_names, topic_names, writer_names}
+use Rattle.dds_ends.specs.Kept.{WriterKept, ReaderKept}
+
+-- the store is that of a reliable reader, by its policies
+abbrev pub reliable_in : StoreKept → Bool
+reliable_in store = is_reliable (qos_of store.cache).reliability
+
+-- each matched writer is known, and is among those that the store counts, of which there are 256 at most; by the policies
+-- the reader is a reliable one or not
+pub record FitsWriters (names : List WriterName) (reader : Proxies) (store : StoreKept) (reliable : Bool) : Type 0 where
+  pub policy : reliable_in store ≡ reliable
+  pub count : count_of reader ≡ length names
+  pub fits : length names ≤ writer_count store.leases
+  pub many : writer_count store.leases ≤ max_readers
+
+-- what stays of a writer while nobody comes or goes: its name, whether an unregister disposes too, how long its values
+-- may be, and the readers of its topic, which never change; and whom it is matched with, to which peers it sends, the
+-- names of its reliable readers, and the last counts of those that were matched before
+pub record WriterIdentity : Type 0 where
+  pub entity : EntityId
+  pub autodispose : Bool
+  pub max_value : ℕ
+  pub known : List TopicName
+  pub matched : List ReaderName
+  pub destinations : List Destination
+  pub readers : List ReaderName
+  pub counts : List LastCount
+
+-- what never changes of a reader: its name, those of its matched writers, and whether it is a reliable one
+pub record ReaderIdentity : Type 0 where
+  pub entity : EntityId
+  pub writers : List WriterName
+  pub reliable : Bool
+
+-- what stays of this writer
+abbrev pub writer_identity : WriterKept → WriterIdentity
+writer_identity w = record {
+  entity = w.entity;
+  autodispose = w.autodispose;
+  max_value = w.max_value;
+  known = w.known;
+  matched = w.matched;
+  destinations = w.destinations;
+  readers = w.readers;
+  counts = w.counts;
+}
+
+-- what never changes of this reader
+abbrev pub reader_identity : ReaderKept → ReaderIdentity
+reader_identity r =
+    record { entity = r.entity; writers = r.writers; reliable = reliable_in r.store }
+
+-- a writer at its opening, as the configuration says it
+abbrev pub configured_writer : List PeerConfig → WriterConfig → WriterIdentity
+configured_writer peers w =
+    record {
+      entity = w.entity;
+      autodispose = w.autodispose;
+      max_value = w.max_value;
+      known = topic_names w.topic peers;
+      matched = all_names w.topic peers;
+      destinations = destinations w.topic 1 peers;
+      readers = reader_names w.topic peers;
+      counts = map first_count (reader_names w.topic peers);
+    }
+
+-- a writer of the configuration, with those that it is matched with now
+pub record IsWriterOf (peers : List PeerConfig) (w : WriterConfig) (is : WriterIdentity) : Type 0 where
+  pub entity : is.entity ≡ w.entity
+  pub autodispose : is.autodispose ≡ w.autodispose
+  pub max_value : is.max_value ≡ w.max_value
+  pub known : is.known ≡ topic_names w.topic peers
+  pub ends : AreMatchedNow peers w.topic is.matched is.destinations is.readers
+
+-- what never changes of a reader, as the configuration says it
+abbrev pub configured_reader : List PeerConfig → ReaderConfig → ReaderIdentity
+configured_reader peers r =
+    record { entity = r.entity; writers = writer_names r.topic peers; reliable = is_reliable_reader r }

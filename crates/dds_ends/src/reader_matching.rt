@@ -1,0 +1,81 @@
+//! What a reader of the peer is told of the writers that it knows: which it is matched with.
+//!
+//! RTPS 2.5, 8.4.10.3 (StatefulReader, matched_writer_add, matched_writer_remove).
+
+ghost use Rattle.std.specs.Prelude.{◌≡◌, ◌<◌, List, length, OnOk, OnErr, IfErr};
+ghost use Rattle.dds_base.specs.declared.code.Code.TheVariants.{Memory};
+ghost use Rattle.dds_base.specs.declared.endpoint.Endpoint.{Endpoint as EndpointOf};
+ghost use Rattle.dds_machine.specs.Part.{Reader, WriterProxy, how_of, is_attached};
+ghost use Rattle.rtps_reader.specs.Tracked.{Tracked};
+ghost use Rattle.dds_ends.specs.Parting.{Attaches, Detaches, IsPastParting, joined_here, left_here};
+ghost use Rattle.dds_ends.specs.Standing.{IsFirstRow, ReaderStands};
+
+use crate::reader_end::ReaderEnd;
+use dds_base::{Code, Handle, Moment};
+use rtps_reader::Attachment;
+
+/// With so many a reader is matched that was matched with so many, once it is told of one that it was matched with or
+/// not.
+fn joined_here(was: bool, here: u16) -> u16
+    ensures { result ≡ joined_here was here }
+{
+    if was { here } else { here.saturating_add(1) }
+}
+
+/// The same, once that one has left.
+fn left_here(was: bool, here: u16) -> u16
+    ensures { result ≡ left_here was here }
+{
+    if was { here.saturating_sub(1) } else { here }
+}
+
+impl ReaderEnd {
+    /// Whether the reader is matched with the writer of this row, which it knows.
+    ///
+    /// RTPS 2.5, 8.4.10 (StatefulReader: matched_writers).
+    pub fn is_attached(&self, row: usize) -> bool
+        requires { row < length self.now.writers }
+        ensures attached { (writer : EndpointOf) (proxies : List WriterProxy) (r : Reader)
+            (tracked : EndpointOf → Tracked)
+            → IsFirstRow self.now.writers writer row → ReaderStands self.now proxies r tracked
+            → result ≡ is_attached (how_of proxies writer) }
+    {
+        !matches!(self.reader.how(row), Attachment::Away)
+    }
+
+    /// The reader is matched with the writer of this row, which it knows, from now on. Its place there stays where it is,
+    /// and waits.
+    ///
+    /// RTPS 2.5, 8.4.10.3 (matched_writer_add).
+    pub fn attach(&mut self, row: usize)
+        requires { row < length self.old.writers }
+        ensures attaches { Attaches self.old row self.new }
+    {
+        self.here = joined_here(self.is_attached(row), self.here);
+        self.matches.make(self.writers[row].writer);
+        self.reader.attach(row);
+    }
+
+    /// The writer of this row left at this moment: the reader is matched with it no longer. A writer that is alive dies
+    /// first, so it is registered for nothing any more. The reader's place there stays where it is. It takes no memory.
+    ///
+    /// # Errors
+    ///
+    /// `Memory` where with it more than 2^64 - 1 entries would have happened; the reader is then as it was.
+    ///
+    /// RTPS 2.5, 8.4.10.3 (matched_writer_remove); DDS 1.4, 2.2.4.1 (LivelinessChangedStatus: not_alive_count).
+    pub fn detach(&mut self, row: usize, now: Moment) -> Result<(), Code>
+        requires { row < length self.old.writers }
+        ensures ok { OnOk result (Detaches self.old row now self.new) }
+        ensures err { OnErr result (self.new ≡ self.old) }
+        ensures past { OnErr result (IsPastParting self.old row now) }
+        ensures memory { IfErr result (λ code. code ≡ Memory) }
+    {
+        let was = self.is_attached(row);
+        self.store.leave(Handle::new(row as u64 + 1), now)?;
+        self.here = left_here(was, self.here);
+        self.matches.end(self.writers[row].writer);
+        self.reader.detach(row);
+        Ok(())
+    }
+}
