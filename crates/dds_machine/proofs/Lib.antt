@@ -4,4 +4,3 @@ pub mod Ticked
 mod WorkedNotices
 mod WorkedConditions
 mod WorkedMatching
-mod WorkedMeeting

@@ -1,6 +1,5 @@
 pub mod Numbered
 pub mod Part
-pub mod Naming
 pub mod Passing
 pub mod Matching
 pub mod Moves
