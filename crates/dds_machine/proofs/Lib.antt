@@ -4,3 +4,4 @@ pub mod Ticked
 mod WorkedNotices
 mod WorkedConditions
 mod WorkedMatching
+mod WorkedMeeting

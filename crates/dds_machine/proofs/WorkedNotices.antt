@@ -23,7 +23,7 @@ use Rattle.dds_machine.specs.declared.call.Call.TheVariants as call
 use Rattle.dds_machine.specs.declared.event.WorldEvent.TheVariants as event
 use Rattle.dds_machine.specs.declared.reply.Reply.TheVariants as reply
 use Rattle.dds_machine.specs.Noticing.{at_end, machine_ended, machine_with_place, told_of}
-use Rattle.dds_machine.specs.Part.{Begun, Part, Seen, opened_with, no_writer, nothing_seen, own_reader}
+use Rattle.dds_machine.specs.Part.{Begun, Part, Seen, opened_with, no_writer, nothing_seen, own_reader, no_names}
 use Rattle.dds_machine.specs.Passing.{passed_at}
 use Rattle.dds_machine.specs.Watching.{Tests, status_changes}
 use Rattle.dds_machine.specs.Calls.{CallStep, lost_at}
@@ -43,6 +43,7 @@ part written seen happened places = record {
   rtps = record {
     writers = record no_writer { lease = Some 10; written = written } ∷ [];
     readers = (record { writer = record { peer = 1; number = 1 }; place = 1; heard = None; how = Begun } ∷ []) ∷ [];
+    names = no_names;
   };
   dds = record {
     moment = 0;

@@ -1,5 +1,6 @@
 pub mod Numbered
 pub mod Part
+pub mod Naming
 pub mod Passing
 pub mod Matching
 pub mod Moves

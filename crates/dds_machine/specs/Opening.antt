@@ -8,6 +8,8 @@ use Rattle.dds_base.specs.declared.config.Config.{Config}
 use Rattle.dds_base.specs.declared.config.PeerConfig.{PeerConfig}
 use Rattle.dds_base.specs.declared.config.WriterConfig.{WriterConfig}
 use Rattle.dds_base.specs.declared.config.ReaderConfig.{ReaderConfig}
+use Rattle.dds_base.specs.declared.guid.EntityId.{EntityId}
+use Rattle.dds_base.specs.declared.guid.GuidPrefix.{GuidPrefix}
 use Rattle.dds_base.specs.declared.qos.MatchedWriter.{MatchedWriter}
 use Rattle.dds_base.specs.declared.qos.ReaderQos.{ReaderQos}
 use Rattle.dds_conditions.specs.Watched.{opened as nothing_watched}
@@ -15,7 +17,7 @@ use Rattle.dds_notices.specs.Listeners.{nobody}
 use Rattle.dds_base.specs.Ownership.{carried}
 use Rattle.dds_base.specs.Matched.{is_reliable_reader, of_matched_writers, of_matched_readers, of_reliable_readers}
 use Rattle.dds_base.specs.declared.endpoint.Endpoint.{Endpoint}
-use Rattle.dds_machine.specs.Part.{ReaderProxy, TopicReader, WriterProxy, Begun, Writer, Reader, Part, nothing_seen, opened_with}
+use Rattle.dds_machine.specs.Part.{Name, ReaderProxy, TopicReader, WriterProxy, Begun, Writer, Reader, Part, nothing_seen, opened_with}
 use Rattle.dds_base.specs.Checked.{limit_of}
 use Rattle.dds_machine.specs.Machine.{Machine}
 
@@ -40,6 +42,27 @@ abbrev pub matched_writers : ℕ → ℕ → List PeerConfig → List WriterProx
 matched_writers topic peer ps =
     of_matched_writers (λ i p n w. record
     { writer = record { peer = i; number = n }; place = 1; heard = None; how = Begun }) topic peer ps
+
+-- the names of ends of a peer, by their entities; the first of them has this number
+abbrev pub names_in : {E : Type 0} → (E → EntityId) → GuidPrefix → ℕ → ℕ → List E → List Name
+names_in entity_of prefix peer number [] = []
+names_in entity_of prefix peer number (e ∷ es) =
+    record {
+      end = record { peer = peer; number = number };
+      guid = record { prefix = prefix; entity = entity_of e };
+    } ∷ names_in entity_of prefix peer (number + 1) es
+
+-- the names of all writers of these peers, the first of which has this number
+abbrev pub writer_names : ℕ → List PeerConfig → List Name
+writer_names peer [] = []
+writer_names peer (p ∷ ps) =
+    names_in (λ (w : WriterConfig). w.entity) p.prefix peer 1 p.writers ++ writer_names (peer + 1) ps
+
+-- the names of all their readers
+abbrev pub reader_names : ℕ → List PeerConfig → List Name
+reader_names peer [] = []
+reader_names peer (p ∷ ps) =
+    names_in (λ (r : ReaderConfig). r.entity) p.prefix peer 1 p.readers ++ reader_names (peer + 1) ps
 
 -- what a reader's QoS says of the matched writers of the topic
 abbrev pub writer_qos : ℕ → List PeerConfig → List MatchedWriter
@@ -89,12 +112,14 @@ reader_from first peers r = record {
   matches = opened_with (map (λ (p : WriterProxy). p.writer) (matched_writers r.topic first peers));
 }
 
--- the part of a peer to which nothing has happened, likewise: at moment 0, with nothing watched and no listener
+-- the part of a peer to which nothing has happened, likewise: at moment 0, with nothing watched and no listener. It
+-- knows the names of these peers' ends.
 abbrev pub part_from : ℕ → List PeerConfig → PeerConfig → Part
 part_from first peers p = record {
   rtps = record {
     writers = map (writer_from first peers) p.writers;
     readers = map (λ (r : ReaderConfig). matched_writers r.topic first peers) p.readers;
+    names = record { writers = writer_names first peers; readers = reader_names first peers };
   };
   dds = record {
     moment = 0;

@@ -18,6 +18,7 @@ use Rattle.dds_base.specs.Kept.{WriterHistory}
 use Rattle.dds_conditions.specs.Watched.{Watched, opened as nothing_watched}
 use Rattle.dds_notices.specs.Listeners.{Places, nobody}
 use Rattle.dds_base.specs.declared.endpoint.Endpoint.{Endpoint}
+use Rattle.dds_base.specs.declared.guid.Guid.{Guid}
 use Rattle.dds_machine.specs.Numbered.{numbered, with_numbered}
 
 -- two names are of one endpoint
@@ -83,10 +84,26 @@ pub record Writer : Type 0 where
   pub readers : List ReaderProxy
   pub matches : Matches
 
--- a peer's writers, and for each of its readers the writers that it knows, in the order of their publication handles
+-- the name by which a peer speaks of a writer or of a reader, and the GUID of that one (RTPS 2.5, 8.2: GUID_t)
+pub record Name : Type 0 where
+  pub end : Endpoint
+  pub guid : Guid
+
+-- the names that a peer knows, of writers and of readers
+pub record Names : Type 0 where
+  pub writers : List Name
+  pub readers : List Name
+
+-- before a name is known
+abbrev pub no_names : Names
+no_names = record { writers = []; readers = [] }
+
+-- a peer's writers, for each of its readers the writers that it knows, in the order of their publication handles, and
+-- the names that it knows
 pub record Rtps : Type 0 where
   pub writers : List Writer
   pub readers : List (List WriterProxy)
+  pub names : Names
 
 -- what a reader's statuses said when each was looked at last, by a call or as a listener was told, and how many entries
 -- there were then: the total of SAMPLE_LOST; nothing of DATA_AVAILABLE; and by LIVELINESS_CHANGED how many matched
@@ -160,7 +177,7 @@ no_reader = record {
 -- in the place of the part of a peer that is not there: it has no writers and no readers
 abbrev pub no_part : Part
 no_part = record {
-  rtps = record { writers = []; readers = [] };
+  rtps = record { writers = []; readers = []; names = no_names };
   dds = record { moment = 0; readers = []; watch = nothing_watched 0 0; listeners = nobody 0 0 };
 }
 

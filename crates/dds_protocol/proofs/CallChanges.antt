@@ -21,7 +21,7 @@ use Rattle.dds_machine.specs.declared.reply.Reply.{Reply}
 use Rattle.dds_machine.specs.declared.reply.Reply.TheVariants.{Done, InstanceHandle, Samples, KeyValue, Refused}
 use Rattle.dds_machine.specs.Part.{Part, Dds, Seen, own_proxies, publication_among}
 use Rattle.dds_machine.specs.Calls.{after_look, after_matches_look, with_happening, IsDoneUnless, IsAnswered, IsAnsweredInMemory, AnswersLook, AnswersAccess, AnswersByCondition, AnswersTelling, Answers, reader_told}
-use Rattle.dds_machine.specs.Matching.{Telling, MatchReader, UnmatchReader, MatchWriter, UnmatchWriter, seen_after_telling}
+use Rattle.dds_machine.specs.Matching.{Telling, MatchReader, UnmatchReader, MatchWriter, UnmatchWriter, MeetReader, MeetWriter, seen_after_telling}
 use Rattle.dds_machine.specs.Watching.{Test, Tests}
 
 -- of the WaitSets: nothing; one of them is another, or none; there is one more; or a condition is detached from each
@@ -52,6 +52,8 @@ telling_watch old (MatchReader w v reliable) = refl
 telling_watch old (UnmatchReader w v) = refl
 telling_watch old (MatchWriter r w) = refl
 telling_watch old (UnmatchWriter r w) = refl
+telling_watch old (MeetReader w v reliable) = refl
+telling_watch old (MeetWriter r w as_writer) = refl
 
 -- ---- by what is then there
 

@@ -1,14 +1,19 @@
 -- A writer that is matched with none but the readers that it knows, once with each, is matched with no more of a peer than
 -- it knows there; and it stays so where it is told of readers.
-use Rattle.std.proofs.Common.{◌≡◌, ℕ, ◌+◌, ◌≤◌, Bool, true, false, not, cond, ◌||◌, List, [], ◌∷◌, ◌++◌, None, Some, map, filter, refl, subst, ap, sym, ◌∙◌, ⊎_elim, arith}
-use Rattle.std.specs.Prelude.{if◌then◌else◌, is_some, ◌==◌}
+use Rattle.std.proofs.Common.{◌≡◌, ℕ, ◌+◌, ◌<◌, ◌≤◌, Bool, true, false, not, cond, ◌&&◌, ◌||◌, Option, eqb-true, List, [], ◌∷◌, ◌++◌, None, Some, map, filter, length, refl, subst, ap, sym, ◌∙◌, ⊎_elim, arith}
+use Rattle.std.specs.Option.{option_or}
+use Rattle.std.specs.Prelude.{if◌then◌else◌, is_some, nat_le, ◌==◌}
 use Rattle.std.specs.List.{count_by, list_any}
-use Rattle.std.proofs.lemmas.Bool.{and_parts}
+use Rattle.std.proofs.lemmas.Bool.{and_parts, or_parts}
 use Rattle.std.proofs.lemmas.List.Folds.{list_any-append}
 use Rattle.std.proofs.lemmas.List.Sums.{sum_by-append, sum_by-cons}
 use Rattle.std.proofs.lemmas.Map.Views.{any-filter_same}
+use Rattle.std.proofs.lemmas.Bool.Decides.{nat_tests}
+use Rattle.dds_base.specs.declared.code.Code.{Code}
+use Rattle.dds_base.specs.declared.code.Code.TheVariants.{OutOfResources}
 use Rattle.dds_base.specs.declared.endpoint.Endpoint.{Endpoint}
-use Rattle.dds_machine.specs.Matching.{new_row, Telling, MatchReader, UnmatchReader, MatchWriter, UnmatchWriter, TellStep, is_matched, joined, knows_reader, left, matching_refusal, telling_refusal}
+use Rattle.dds_base.specs.Bounds.{max_ends}
+use Rattle.dds_machine.specs.Matching.{new_row, Telling, MatchReader, UnmatchReader, MatchWriter, UnmatchWriter, MeetReader, MeetWriter, TellStep, is_matched, joined, known_at, knows_reader, knows_reliable, knows_too_many, left, matching_refusal, max_known, may_meet_reader, met, telling_refusal}
 use Rattle.dds_machine.specs.Part.{Part, ReaderProxy, TopicReader, Writer, no_writer, own_writer, row_of, same_endpoint}
 use Rattle.dds_machine.proofs.Tables.{numbered-cases, same_is}
 use Rattle.dds_protocol.specs.Contact.{Contact}
@@ -319,7 +324,114 @@ left_few w v m = record {
         let ends = kept_or_out (λ (e : Endpoint). e) v r false same w.matched in
         let before = m.rows r in omega (arith, rows, ends, before)
 
+-- a reader more that a writer knows
+row_known : (ks : List TopicReader) (k : TopicReader) (r : Endpoint)
+    → is_some (row_of (λ (x : TopicReader). x.reader) (ks ++ k ∷ []) r)
+    ≡ (is_some (row_of (λ (x : TopicReader). x.reader) ks r) || same_endpoint k.reader r)
+row_known [] k r = by (same_endpoint k.reader r)
+  where
+    by : (b : Bool) → is_some (cond b (Some k) None) ≡ (false || b)
+    by true = refl
+    by false = refl
+row_known (x ∷ xs) k r = by (same_endpoint x.reader r) (row_known xs k r)
+  where
+    by : (b : Bool)
+        → is_some (row_of (λ (y : TopicReader). y.reader) (xs ++ k ∷ []) r)
+        ≡ (is_some (row_of (λ (y : TopicReader). y.reader) xs r) || same_endpoint k.reader r)
+        → is_some (cond b (Some x) (row_of (λ (y : TopicReader). y.reader) (xs ++ k ∷ []) r))
+        ≡ (is_some (cond b (Some x) (row_of (λ (y : TopicReader). y.reader) xs r)) || same_endpoint k.reader r)
+    by true e = refl
+    by false e = e
+
+-- it knows few of each peer still, where it did not know that one, and fewer than a peer has at most
+more_few : (w : Writer) (v : Endpoint) (reliable : Bool) → known_at w v.peer < max_ends → MatchesFew w
+    → MatchesFew (record w { known = w.known ++ record { reader = v; reliable = reliable } ∷ [] })
+more_few w v reliable below m =
+    let new : TopicReader = record { reader = v; reliable = reliable } in
+    record {
+      few = λ peer. by_peer peer (v.peer == peer) refl;
+      known = λ r there.
+          row_known w.known new r
+          ∙ ap (λ (b : Bool). b || same_endpoint v r) (m.known r there);
+      once = m.once;
+      rows = m.rows;
+    }
+  where
+    by_peer : (peer : ℕ) (b : Bool) → (v.peer == peer) ≡ b
+        → count_by (λ (r : Endpoint). r.peer == peer)
+        (map (λ (k : TopicReader). k.reader) (w.known ++ record { reader = v; reliable = reliable } ∷ [])) ≤ max_ends
+    by_peer peer b same =
+        let new : TopicReader = record { reader = v; reliable = reliable } in
+        let test : Endpoint → Bool = λ r. r.peer == peer in
+        let all = count-map test (λ (k : TopicReader). k.reader) (w.known ++ new ∷ []) in
+        let sum = sum_by-append (λ (k : TopicReader). one_if (test k.reader)) w.known (new ∷ []) in
+        let last = count-cons (λ (k : TopicReader). test k.reader) new [] in
+        let before = m.few peer in
+        let known = count-map test (λ (k : TopicReader). k.reader) w.known in
+        by b same all sum last before known
+      where
+        by : (b : Bool) → (v.peer == peer) ≡ b
+            → count_by (λ (r : Endpoint). r.peer == peer)
+            (map (λ (k : TopicReader). k.reader) (w.known ++ record { reader = v; reliable = reliable } ∷ []))
+            ≡ count_by (λ (k : TopicReader). k.reader.peer == peer)
+            (w.known ++ record { reader = v; reliable = reliable } ∷ [])
+            → count_by (λ (k : TopicReader). k.reader.peer == peer)
+            (w.known ++ record { reader = v; reliable = reliable } ∷ [])
+            ≡ count_by (λ (k : TopicReader). k.reader.peer == peer) w.known
+            + count_by (λ (k : TopicReader). k.reader.peer == peer) (record { reader = v; reliable = reliable } ∷ [])
+            → count_by (λ (k : TopicReader). k.reader.peer == peer) (record { reader = v; reliable = reliable } ∷ [])
+            ≡ one_if (v.peer == peer) + count_by (λ (k : TopicReader). k.reader.peer == peer) []
+            → count_by (λ (r : Endpoint). r.peer == peer) (map (λ (k : TopicReader). k.reader) w.known) ≤ max_ends
+            → count_by (λ (r : Endpoint). r.peer == peer) (map (λ (k : TopicReader). k.reader) w.known)
+            ≡ count_by (λ (k : TopicReader). k.reader.peer == peer) w.known
+            → count_by (λ (r : Endpoint). r.peer == peer)
+            (map (λ (k : TopicReader). k.reader) (w.known ++ record { reader = v; reliable = reliable } ∷ []))
+            ≤ max_ends
+        by true same all sum last before known =
+            let one = ap one_if same in
+            let here = ap (λ (p : ℕ). known_at w p) (eqb-true v.peer peer same) in
+            omega (arith, all, sum, last, one, here, below)
+        by false same all sum last before known =
+            let one = ap one_if same in omega (arith, all, sum, last, one, before, known)
+
+or_last : (a b : Bool) → b ≡ true → (a || b) ≡ true
+or_last true b h = refl
+or_last false b h = h
+
+-- one match more, with a reader that the writer may not have known
+met_few : (w : Writer) (v : Endpoint) (reliable : Bool) → knows_too_many w v ≡ false → is_matched w v ≡ false
+    → MatchesFew w → MatchesFew (met w v reliable)
+met_few w v reliable few apart m = by (knows_reader w v) refl few
+  where
+    new : TopicReader
+    new = record { reader = v; reliable = reliable }
+
+    after : Bool → Writer
+    after b = if b then w else record w { known = w.known ++ new ∷ [] }
+
+    by : (b : Bool) → knows_reader w v ≡ b
+        → (not b && (nat_le max_ends (known_at w v.peer) || nat_le max_known (length w.known))) ≡ false
+        → MatchesFew (joined (after b) v (knows_reliable (after b) v))
+    by true knows few = joined_few w v (knows_reliable w v) knows apart m
+    by false knows few =
+        let here = (or_parts (nat_le max_ends (known_at w v.peer)) (nat_le max_known (length w.known)) few).0 in
+        let below : known_at w v.peer < max_ends = grind (arith, nat_tests, here) in
+        let more : MatchesFew (after false) = more_few w v reliable below m in
+        let there : knows_reader (after false) v ≡ true =
+        row_known w.known new v ∙ or_last (is_some (row_of (λ (k : TopicReader). k.reader) w.known v))
+        (same_endpoint v v) (same_self v) in
+        joined_few (after false) v (knows_reliable (after false) v) there apart more
+
 -- ---- a telling
+
+-- of two causes neither holds
+pub or_none : (a b : Option Code) → option_or a b ≡ None → (a ≡ None) × (b ≡ None)
+or_none None b h = (refl, h)
+or_none (Some code) b h = absurd cc
+
+not_many : (many : Bool) → ◌≡◌ {A = Option Code} (if many then Some OutOfResources else None) None → many ≡ false
+not_many true h = absurd cc
+not_many false h = refl
 
 -- a match that is not refused is with a reader that is known, and not matched
 allowed : (known told : Bool) → matching_refusal known told ≡ None → (known ≡ true) × (told ≡ false)
@@ -341,6 +453,17 @@ after_few old (UnmatchReader k v) none all n =
     (numbered-cases old.rtps.writers k (left (own_writer old k) v) n no_writer)
 after_few old (MatchWriter r w) none all n = all n
 after_few old (UnmatchWriter r w) none all n = all n
+after_few old (MeetReader k v reliable) none all n =
+    let w : Writer = own_writer old k in
+    let both = or_none (matching_refusal (may_meet_reader old.rtps k v) (is_matched w v.end))
+    (if knows_too_many w v.end then Some OutOfResources else None) none in
+    ⊎_elim (λ e. subst (λ (x : Writer). MatchesFew x) (sym e) (all n))
+    (λ s.
+    let can = allowed (may_meet_reader old.rtps k v) (is_matched w v.end) both.0 in
+    subst (λ (x : Writer). MatchesFew x) (sym s.1)
+    (met_few w v.end reliable (not_many (knows_too_many w v.end) both.1) can.1 (all k)))
+    (numbered-cases old.rtps.writers k (met w v.end reliable) n no_writer)
+after_few old (MeetWriter r w as_writer) none all n = all n
 
 pub few_told : (old : Part) (t : Telling) (new : Part) → TellStep old t None new → HasFewMatches old → HasFewMatches new
 few_told old t new h all = subst (λ (p : Part). HasFewMatches p) (sym h.1) (after_few old t h.0 all)

@@ -26,7 +26,7 @@ use Rattle.dds_protocol.proofs.Resumed.{as_moves}
 use Rattle.dds_protocol.specs.Peer.{Peer, PeerStep, EventStep, claimed_by, no_peer, packets_of}
 use Rattle.dds_protocol.specs.World.{peer_at}
 use Rattle.dds_protocol.proofs.CallChanges.{CallChange, unchanged, reads, takes, looks, watches, is_told, sees_matches, changes_of}
-use Rattle.dds_machine.specs.Matching.{Telling, MatchReader, UnmatchReader, MatchWriter, UnmatchWriter, seen_after_telling}
+use Rattle.dds_machine.specs.Matching.{Telling, MatchReader, UnmatchReader, MatchWriter, UnmatchWriter, MeetReader, MeetWriter, seen_after_telling}
 use Rattle.dds_machine.specs.Watching.{Tests}
 
 -- what the application has handed over
@@ -45,6 +45,8 @@ telling_keeps old (MatchReader w v reliable) = refl
 telling_keeps old (UnmatchReader w v) = refl
 telling_keeps old (MatchWriter r w) = refl
 telling_keeps old (UnmatchWriter r w) = refl
+telling_keeps old (MeetReader w v reliable) = refl
+telling_keeps old (MeetWriter r w as_writer) = refl
 
 call_keeps : (old : Part) (new : Dds) → CallChange old new → SameHanded old.dds new
 call_keeps old new (unchanged is) = ap (λ (d : Dds). handed d) is

@@ -6,7 +6,8 @@ use Rattle.dds_base.specs.declared.change.Change.{Change}
 use Rattle.dds_base.specs.declared.config.Config.{Config}
 use Rattle.dds_base.specs.declared.guid.GuidPrefix.{GuidPrefix}
 use Rattle.dds_base.specs.declared.happening.Happening.{Happening}
-use Rattle.dds_base.specs.declared.happening.Happening.TheVariants.{Read as HasRead, Took, Died, Left, Passed, Heard as WasHeard}
+use Rattle.dds_base.specs.declared.qos.MatchedWriter.{MatchedWriter}
+use Rattle.dds_base.specs.declared.happening.Happening.TheVariants.{Read as HasRead, Took, Died, Joined, Left, Passed, Heard as WasHeard}
 use Rattle.dds_base.specs.declared.happening.PassedRun.{PassedRun}
 use Rattle.dds_base.specs.Liveliness.{dead_at, is_alive, with_deaths}
 use Rattle.dds_base.specs.Places.{WriterGrounds, Match, PlaceWith, AllCome, GoesTo, coming}
@@ -16,7 +17,7 @@ use Rattle.dds_machine.specs.declared.reply.Move.TheVariants.{Place, Acknowledge
 use Rattle.dds_machine.specs.declared.reply.Reply.{Reply}
 use Rattle.dds_machine.specs.declared.reply.Reply.TheVariants.{Done, Refused, Reported}
 use Rattle.dds_machine.specs.declared.reply.Report.{Report}
-use Rattle.dds_machine.specs.Matching.{Telling, MatchReader, UnmatchReader, MatchWriter, UnmatchWriter, happened_after, parted_at, reader_joined, reader_left, reader_looked_at, seen_after_telling}
+use Rattle.dds_machine.specs.Matching.{Telling, MatchReader, UnmatchReader, MatchWriter, UnmatchWriter, MeetReader, MeetWriter, happened_after, happened_once_met, is_known, parted_at, reader_joined, reader_left, reader_looked_at, reader_met, seen_after_telling}
 use Rattle.dds_machine.specs.Moves.{Grounds, AreMoves, as_to, match_of, position_at}
 use Rattle.dds_machine.specs.Noticing.{at_end}
 use Rattle.dds_machine.specs.Numbered.{numbered, with_numbered}
@@ -116,6 +117,10 @@ more_parted (Some w) now h = by (is_alive w h)
         (more_one (Left w now) (Died w now ∷ h))
     by false = more_one (Left w now) h
 
+more_met : (known : Bool) (writer : MatchedWriter) (h : List Happening) → More h (happened_once_met known writer h)
+more_met true writer h = more_same h
+more_met false writer h = more_one (Joined writer) h
+
 by_telling : (old : Part) (t : Telling) → AllGoOn old.dds.readers (seen_after_telling old t).readers
 by_telling old (MatchReader w v reliable) = all_same old.dds.readers
 by_telling old (UnmatchReader w v) = all_same old.dds.readers
@@ -129,6 +134,11 @@ by_telling old (UnmatchWriter k w) =
       qos = refl;
       more = more_parted (publication_among (own_proxies old k) w) old.dds.moment r.happened;
     })
+by_telling old (MeetReader w v reliable) = all_same old.dds.readers
+by_telling old (MeetWriter k w as_writer) =
+    let r : Reader = own_reader old k in
+    all_with old.dds.readers k (reader_met (own_proxies old k) r w as_writer)
+    (record { qos = refl; more = more_met (is_known (own_proxies old k) w) as_writer r.happened })
 
 by_call : (old : Part) (new : Dds) → CallChange old new → AllGoOn old.dds.readers new.readers
 by_call old new (unchanged is) = subst (λ (d : Dds). AllGoOn old.dds.readers d.readers) (sym is) (all_same old.dds.readers)

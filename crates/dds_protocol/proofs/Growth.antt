@@ -19,23 +19,22 @@ use Rattle.dds_machine.specs.declared.reply.Move.TheVariants.{Place, Acknowledge
 use Rattle.dds_machine.specs.declared.reply.Reply.{Reply}
 use Rattle.dds_machine.specs.declared.reply.Reply.TheVariants.{Done, Refused, Reported}
 use Rattle.dds_machine.specs.Numbered.{numbered, with_numbered}
-use Rattle.dds_machine.specs.Part.{Attachment, Away, Waiting, WriterProxy, Writer, Rtps, Part, no_writer, no_part, own_writer, own_proxies, place_of, with_place, with_begun, with_heard, with_acknowledged, writer_changes, history_of, is_behind, is_assertion, owed_from, NoLess}
+use Rattle.dds_machine.specs.Part.{Attachment, Away, Waiting, WriterProxy, Writer, Rtps, Part, no_writer, no_part, own_writer, own_proxies, place_of, with_place, with_begun, with_heard, with_acknowledged, with_writer, writer_changes, history_of, is_behind, is_assertion, owed_from, NoLess}
 use Rattle.dds_machine.specs.Moves.{Grounds, IsMove, AreMoves, DeliveryStep}
 use Rattle.dds_machine.specs.Ticks.{ticked, writers_ticked, reader_ticked, TickStep}
 use Rattle.dds_machine.specs.Calls.{Effect, nothing, writes, tells, looks_at_matches, effect, effect_of, with_written, CallStep}
-use Rattle.dds_machine.specs.Matching.{Telling, MatchReader, UnmatchReader, MatchWriter, UnmatchWriter, after_telling, is_known, joined, left, with_how, with_match, writer_looked_at}
+use Rattle.dds_machine.specs.Matching.{Telling, MatchReader, UnmatchReader, MatchWriter, UnmatchWriter, MeetReader, MeetWriter, after_telling, is_known, joined, left, met, with_how, with_match, writer_looked_at}
 use Rattle.dds_machine.specs.Watching.{Tests}
 use Rattle.dds_protocol.specs.Claims.{Claim, ChangeIs, MayPass, PlaceReached, Asserts}
 use Rattle.dds_machine.specs.Machine.{Machine, part_at, writer_at, place_at}
 use Rattle.dds_protocol.specs.World.{Holds}
-use Rattle.dds_protocol.proofs.Owing.{changes-more, no_fewer, owed_same, owed_acknowledged, owed_joined, owed_left}
+use Rattle.dds_protocol.proofs.Owing.{changes-more, no_fewer, owed_same, met_of, owed_acknowledged, owed_joined, owed_left}
 use Rattle.dds_machine.proofs.Ticked.{numbered-writers_ticked}
 use Rattle.dds_machine.proofs.Tables.{numbered-cases, append_nothing, slice_get-append, place-append, place-cases, place-how, begun-cases, place-heard, no_less_same, no_less_on, none_on, at_most_on, below_on}
 
 pub record WriterGrows (old new : Writer) : Type 0 where
   pub policy : new.policy ≡ old.policy
   pub values : new.max_value ≡ old.max_value
-  pub known : new.known ≡ old.known
   pub more : List Written
   pub written : new.written ≡ more ++ old.written
   pub owed : (r : Endpoint) → owed_from old r ≤ owed_from new r
@@ -49,7 +48,6 @@ pub writer_same : (w : Writer) → WriterGrows w w
 writer_same w = record {
   policy = refl;
   values = refl;
-  known = refl;
   more = [];
   written = refl;
   owed = λ r. omega arith;
@@ -59,7 +57,6 @@ pub writer_on : (a b c : Writer) → WriterGrows a b → WriterGrows b c → Wri
 writer_on a b c f g = record {
   policy = g.policy ∙ f.policy;
   values = g.values ∙ f.values;
-  known = g.known ∙ f.known;
   more = g.more ++ f.more;
   written =
       g.written ∙ (ap (λ (xs : List Written). g.more ++ xs) f.written ∙ sym (append_assoc g.more f.more a.written));
@@ -159,7 +156,6 @@ IsMove-grows g old (Acknowledged w r to) new h =
     subst (λ (q : Part). Grows old.rtps q.rtps) (sym h.after) (set_writer-grows old.rtps w after (record {
       policy = refl;
       values = refl;
-      known = refl;
       more = [];
       written = refl;
       owed = λ v. owed_acknowledged before r to v;
@@ -210,7 +206,6 @@ telling-grows old (MatchReader w r reliable) =
     set_writer-grows old w (joined before r reliable) (record {
       policy = refl;
       values = refl;
-      known = refl;
       more = [];
       written = refl;
       owed = λ v. owed_joined before r reliable v;
@@ -220,7 +215,6 @@ telling-grows old (UnmatchReader w r) =
     set_writer-grows old w (left before r) (record {
       policy = refl;
       values = refl;
-      known = refl;
       more = [];
       written = refl;
       owed = λ v. owed_left before r v;
@@ -231,6 +225,22 @@ telling-grows old (MatchWriter r w) =
 telling-grows old (UnmatchWriter r w) =
     let rows : List WriterProxy = numbered old.readers r [] in
     set_reader-grows old r (with_how rows w Away) (still rows w Away)
+telling-grows old (MeetReader w r reliable) =
+    let before : Writer = numbered old.writers w no_writer in
+    let grows : Grows old (with_writer old w (λ x. met x r.end reliable)) =
+    set_writer-grows old w (met before r.end reliable) (met_of (λ x. WriterGrows before x) before r.end reliable
+    (λ ks b. record {
+      policy = refl;
+      values = refl;
+      more = [];
+      written = refl;
+      owed = λ v. owed_joined (record before { known = ks }) r.end b v;
+    })) in
+    record { writers = grows.writers; places = grows.places }
+telling-grows old (MeetWriter r w as_writer) =
+    let rows : List WriterProxy = numbered old.readers r [] in
+    let grows = set_reader-grows old r (with_match rows w) (place_matched rows w) in
+    record { writers = grows.writers; places = grows.places }
 
 -- what a call does: lists grow by one entry, and no acknowledgement changes; or it tells
 
@@ -238,7 +248,6 @@ pub entered-grows : (w : Writer) (entry : Written) → WriterGrows w (with_writt
 entered-grows w entry = record {
   policy = refl;
   values = refl;
-  known = refl;
   more = entry ∷ [];
   written = refl;
   owed = λ r. owed_same w (with_written w entry) refl (no_fewer entry w.written) r;
@@ -248,7 +257,6 @@ pub looked_at-grows : (w : Writer) → WriterGrows w (writer_looked_at w)
 looked_at-grows w = record {
   policy = refl;
   values = refl;
-  known = refl;
   more = [];
   written = refl;
   owed = λ r. omega arith;

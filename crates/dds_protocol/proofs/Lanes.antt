@@ -5,6 +5,7 @@ use Rattle.std.proofs.lemmas.Bool.{cases_lt}
 use Rattle.std.proofs.lemmas.Option.{same_Some}
 use Rattle.dds_base.specs.declared.change.Change.{Change}
 use Rattle.dds_base.specs.declared.happening.Happening.{Happening}
+use Rattle.dds_base.specs.declared.qos.MatchedWriter.{MatchedWriter}
 use Rattle.dds_base.specs.declared.happening.Happening.TheVariants.{Read as HasRead, Took, Heard as WasHeard, Died}
 use Rattle.dds_base.specs.Liveliness.{dead_at, is_alive, with_deaths}
 use Rattle.dds_base.specs.Places.{MayPassOver}
@@ -20,7 +21,7 @@ use Rattle.dds_machine.specs.Part.{Attachment, Away, Waiting, Begun, same_endpoi
 use Rattle.dds_machine.specs.Moves.{Grounds, as_to, match_of, position_at, AreMoves, Begins as PlaceBegins, Places, Hears, DeliveryStep}
 use Rattle.dds_machine.specs.Ticks.{TickStep, reader_ticked}
 use Rattle.dds_machine.specs.Calls.{Effect, nothing, writes, tells, looks_at_matches, effect, effect_of, Answers, CallStep}
-use Rattle.dds_machine.specs.Matching.{MatchReader, UnmatchReader, MatchWriter, UnmatchWriter, happened_after, is_known, parted_at, reader_joined, reader_left, reader_looked_at, with_how, with_match}
+use Rattle.dds_machine.specs.Matching.{MatchReader, UnmatchReader, MatchWriter, UnmatchWriter, MeetReader, MeetWriter, happened_after, happened_once_met, is_known, parted_at, reader_joined, reader_left, reader_looked_at, reader_met, with_how, with_match}
 use Rattle.dds_machine.specs.Watching.{Tests}
 use Rattle.dds_protocol.specs.InOrder.{came_from}
 use Rattle.dds_machine.proofs.Tables.{begun-cases, numbered-cases, numbered-map-cases, numbered-same, length-with_numbered, place-cases, place-hits, place-heard, place-how, place-stays, same_is}
@@ -314,6 +315,12 @@ parting_came (Some w) now h p = by (is_alive w h)
     by true = refl
     by false = refl
 
+-- nor as a writer is met
+meeting_came : (known : Bool) (writer : MatchedWriter) (h : List Happening) (p : ℕ)
+    → came_from p (happened_once_met known writer h) ≡ came_from p h
+meeting_came true writer h p = refl
+meeting_came false writer h p = refl
+
 -- an access enters nothing that came, and what is watched or seen is not what came
 call_came : (old : Part) (new : Dds) (r : ℕ) → CallChange old new → SameCame old.dds new r
 call_came old new r (unchanged is) = same_came old.dds new r is
@@ -331,6 +338,10 @@ call_came old new r (watches after filters sets is) = (
 )
 call_came old new r (is_told (MatchReader w v reliable) is) = same_came old.dds new r is
 call_came old new r (is_told (UnmatchReader w v) is) = same_came old.dds new r is
+call_came old new r (is_told (MeetReader w v reliable) is) = same_came old.dds new r is
+call_came old new r (is_told (MeetWriter k w as_writer) is) =
+    changed_reader old new k (reader_met (own_proxies old k) (own_reader old k) w as_writer) r
+    (λ p. meeting_came (is_known (own_proxies old k) w) as_writer (own_reader old k).happened p) is
 call_came old new r (is_told (MatchWriter k w) is) =
     changed_reader old new k (reader_joined (own_reader old k) w) r (λ p. refl) is
 call_came old new r (is_told (UnmatchWriter k w) is) =
@@ -429,6 +440,11 @@ effect_lane changes old new w r (tells (MatchReader k v reliable)) l h own came 
 effect_lane changes old new w r (tells (UnmatchReader k v)) l h own came =
     lane_same changes old new w r l (ap (λ (x : Rtps). x.readers) h) own came
 effect_lane changes old new w r (tells (MatchWriter k v)) l h own came =
+    lane_rows changes old new w r k (with_match (own_proxies old k) v) l (ap (λ (x : Rtps). x.readers) h) own came
+    (λ handle place. match_stays (own_proxies old k) v w handle place)
+effect_lane changes old new w r (tells (MeetReader k v reliable)) l h own came =
+    lane_same changes old new w r l (ap (λ (x : Rtps). x.readers) h) own came
+effect_lane changes old new w r (tells (MeetWriter k v as_writer)) l h own came =
     lane_rows changes old new w r k (with_match (own_proxies old k) v) l (ap (λ (x : Rtps). x.readers) h) own came
     (λ handle place. match_stays (own_proxies old k) v w handle place)
 effect_lane changes old new w r (tells (UnmatchWriter k v)) l h own came =

@@ -25,6 +25,7 @@ mod WorkedPeers
 mod WorkedReceipt
 mod WorkedTicks
 pub mod OwnGuids
+pub mod Finding
 pub mod Ways
 pub mod Knowing
 pub mod Framing

@@ -4,7 +4,6 @@ use Rattle.std.proofs.Common.{◌≡◌, ◌⊎◌, ℕ, ℤ, ◌+◌, Bool, tru
 use Rattle.std.proofs.lemmas.List.Elements.{Contains-append_cases, Contains-append_left, Contains-append_right}
 use Rattle.dds_base.specs.declared.endpoint.Endpoint.{Endpoint}
 use Rattle.dds_base.specs.declared.guid.EntityId.{EntityId}
-use Rattle.dds_base.specs.Checked.{same_entity}
 use Rattle.dds_base.specs.Counts.{is_later}
 use Rattle.dds_base.specs.Matched.{is_reliable_reader}
 use Rattle.dds_base.specs.Places.{Match}
@@ -16,12 +15,13 @@ use Rattle.dds_machine.specs.Numbered.{HasNumber}
 use Rattle.dds_machine.specs.Part.{Attachment, is_attached}
 use Rattle.dds_protocol.specs.Backed.{reader_at}
 use Rattle.dds_protocol.specs.CatchUp.{Standing}
-use Rattle.dds_protocol.specs.Claims.{Receiver, every_reader, Names, IsReader, IsToReader, IsToReliable, IsWriter}
+use Rattle.dds_protocol.specs.Claims.{Receiver, Names, IsReader, IsToReader, IsToReliable, IsWriter}
 use Rattle.dds_protocol.specs.DueMessages.{Due}
 use Rattle.dds_protocol.specs.Protocol.{State, Idles, TakesHeartbeat, HearsAlone, ReaderTakes, Takes, FollowsMessage, heard_as, stands_to}
 use Rattle.dds_protocol.proofs.BeatsTo.{AreBeats, beats_weaker}
+use Rattle.dds_protocol.proofs.Finding.{names_or_not}
 use Rattle.dds_protocol.proofs.Knowing.{answered_same}
-use Rattle.dds_protocol.proofs.OwnGuids.{entity-Decides, one_writer}
+use Rattle.dds_protocol.proofs.OwnGuids.{one_writer}
 use Rattle.dds_protocol.proofs.PairPackets.{TakesFirst, first_head}
 use Rattle.dds_protocol.proofs.PairReader.{has_as, SeatAs, seat_kept, HearsBy, heartbeat_moves, hears_between, reader_entities}
 use Rattle.dds_protocol.proofs.PairTurns.{Host, Keeps, keeps_same, keeps_on, at_same, OfOther, Spares, spares_idle, spares_on, TurnOf, turns_keep, turn_of}
@@ -52,18 +52,6 @@ pub record NamesFirst (c : Host) (at : Receiver) (r : ℕ) (entity : EntityId) (
 -- it does not name the reader
 abbrev pub IsUnnamed : EntityId → HeartbeatBody → Type 0
 IsUnnamed entity h = Names h.reader_id entity → ⊥
-
--- an entity id names the reader, or not
-names_or_not : (id entity : EntityId) → Names id entity ⊎ (Names id entity → ⊥)
-names_or_not id entity = by (same_entity id entity) (same_entity id every_reader) refl refl
-  where
-    by : (a b : Bool) → same_entity id entity ≡ a → same_entity id every_reader ≡ b
-        → Names id entity ⊎ (Names id entity → ⊥)
-    by true b e f = inl (inl ((entity-Decides id entity).0 e))
-    by false true e f = inl (inr ((entity-Decides id every_reader).0 f))
-    by false false e f =
-        inr (λ n. ⊎_elim (λ is. let same = (entity-Decides id entity).1 is in absurd cc)
-        (λ is. let same = (entity-Decides id every_reader).1 is in absurd cc) n)
 
 -- a reader is named by one entity id
 pub not_named : (c : Host) (at : Receiver) (r : ℕ) (entity : EntityId) → IsReader c.config c.own entity (reader_at c.peer r)

@@ -16,7 +16,7 @@ use Rattle.dds_machine.specs.Calls.{CallStep}
 use Rattle.dds_machine.specs.Machine.{Machine, AllTests, part_at, grounds_of, Step}
 use Rattle.dds_machine.specs.Numbered.{numbered, with_numbered}
 use Rattle.dds_machine.specs.Part.{WriterProxy, Reader, Dds, Part, no_reader, no_part, own_proxies, own_reader, at_reader, with_place, with_begun, with_heard}
-use Rattle.dds_machine.specs.Matching.{Telling, MatchReader, UnmatchReader, MatchWriter, UnmatchWriter, parted_at, reader_joined, reader_left, reader_looked_at, seen_after_telling}
+use Rattle.dds_machine.specs.Matching.{Telling, MatchReader, UnmatchReader, MatchWriter, UnmatchWriter, MeetReader, MeetWriter, parted_at, reader_joined, reader_left, reader_met, reader_looked_at, seen_after_telling}
 use Rattle.dds_machine.specs.Moves.{Grounds, IsMove, AreMoves, DeliveryStep}
 use Rattle.dds_machine.specs.Ticks.{TickStep, reader_ticked}
 use Rattle.dds_machine.specs.Watching.{Tests}
@@ -85,6 +85,10 @@ telling_qos old (MatchWriter k w) r =
 telling_qos old (UnmatchWriter k w) r =
     changed_qos old (seen_after_telling old (UnmatchWriter k w)) k
     (reader_left (own_reader old k) w (parted_at old k w)) r refl refl
+telling_qos old (MeetReader w v reliable) r = refl
+telling_qos old (MeetWriter k w as_writer) r =
+    changed_qos old (seen_after_telling old (MeetWriter k w as_writer)) k
+    (reader_met (own_proxies old k) (own_reader old k) w as_writer) r refl refl
 
 change_qos : (old : Part) (new : Dds) (r : ℕ) → CallChange old new
     → (numbered new.readers r no_reader).qos ≡ (own_reader old r).qos

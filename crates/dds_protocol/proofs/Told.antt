@@ -11,12 +11,12 @@ use Rattle.dds_machine.specs.declared.call.Call.TheVariants as call
 use Rattle.dds_machine.specs.declared.reply.Reply.{Reply}
 use Rattle.dds_machine.specs.declared.reply.Reply.TheVariants.{Done, InstanceHandle, LivelinessLost, Matched}
 use Rattle.dds_machine.specs.Calls.{Answers, CallStep, Effect, nothing, writes, tells, looks_at_matches, effect, effect_of, reader_told}
-use Rattle.dds_machine.specs.Matching.{Telling, MatchReader, UnmatchReader, MatchWriter, UnmatchWriter, TellStep, after_telling, is_known, joined, left, seen_after_telling, telling_refusal, with_how, with_match}
+use Rattle.dds_machine.specs.Matching.{Telling, MatchReader, UnmatchReader, MatchWriter, UnmatchWriter, MeetReader, MeetWriter, TellStep, after_telling, is_known, joined, left, met, seen_after_telling, telling_refusal, with_how, with_match}
 use Rattle.dds_machine.specs.Numbered.{numbered, with_numbered}
-use Rattle.dds_machine.specs.Part.{Attachment, Away, Waiting, Dds, Part, Rtps, Writer, WriterProxy, no_writer, place_of, row_of}
+use Rattle.dds_machine.specs.Part.{Attachment, Away, Waiting, Dds, Part, Rtps, TopicReader, Writer, WriterProxy, no_writer, place_of, row_of}
 use Rattle.dds_machine.specs.Watching.{Tests}
 use Rattle.dds_machine.proofs.Tables.{field-stays, length-with_numbered, no_less_same, numbered-cases, row-append}
-use Rattle.dds_protocol.proofs.Owing.{Covered, covered_joined, covered_left}
+use Rattle.dds_protocol.proofs.Owing.{Covered, covered_joined, covered_left, covered_met, met_of}
 use Rattle.dds_protocol.proofs.Growth.{Grows, Untold, grows_same, new_row, telling-grows}
 
 -- ---- a step
@@ -126,6 +126,23 @@ matched_or_new {V} field kept rows w v = by (is_known rows w)
         (λ p. refl) (λ p. kept p Waiting) rows w v)
     by false = appended field rows w v
 
+-- the rows of a reader that is told of a writer, among those of all readers
+match_rows : {V : Type 0} (field : WriterProxy → V) (fresh : V)
+    → ((p : WriterProxy) (how : Attachment) → field (record p { how = how }) ≡ field p)
+    → ((w : Endpoint) → field (new_row w) ≡ fresh) → (old : Rtps) (k : ℕ) (v : Endpoint) (r : ℕ) (w : Endpoint)
+    → OrNew (option_map field
+    (row (numbered (with_numbered old.readers k (with_match (numbered old.readers k []) v)) r []) w))
+    (option_map field (row (numbered old.readers r []) w)) fresh
+match_rows {V} field fresh kept is old k v r w =
+    let rows : List WriterProxy = numbered old.readers k [] in
+    let of : List WriterProxy → Option V = λ xs. option_map field (row xs w) in
+    ⊎_elim (λ e. inl (ap of e))
+    (λ s.
+    subst (λ (o : Option V). OrNew o (of (numbered old.readers r [])) fresh) (sym (ap of s.1))
+    (subst (λ (j : ℕ). OrNew (of (with_match rows v)) (of (numbered old.readers j [])) fresh) (sym s.0)
+    (subst (λ (x : V). OrNew (of (with_match rows v)) (of rows) x) (is v) (matched_or_new field kept rows v w))))
+    (numbered-cases old.readers k (with_match rows v) r [])
+
 -- A field of a reader's rows other than how it stands to a writer, and other than the writer, stays at a telling, or the
 -- row is new.
 pub telling_rows : {V : Type 0} (field : WriterProxy → V) (fresh : V)
@@ -135,15 +152,7 @@ pub telling_rows : {V : Type 0} (field : WriterProxy → V) (fresh : V)
     (option_map field (row (numbered old.readers r []) w)) fresh
 telling_rows {V} field fresh kept is old (MatchReader k v reliable) r w = inl refl
 telling_rows {V} field fresh kept is old (UnmatchReader k v) r w = inl refl
-telling_rows {V} field fresh kept is old (MatchWriter k v) r w =
-    let rows : List WriterProxy = numbered old.readers k [] in
-    let of : List WriterProxy → Option V = λ xs. option_map field (row xs w) in
-    ⊎_elim (λ e. inl (ap of e))
-    (λ s.
-    subst (λ (o : Option V). OrNew o (of (numbered old.readers r [])) fresh) (sym (ap of s.1))
-    (subst (λ (j : ℕ). OrNew (of (with_match rows v)) (of (numbered old.readers j [])) fresh) (sym s.0)
-    (subst (λ (x : V). OrNew (of (with_match rows v)) (of rows) x) (is v) (matched_or_new field kept rows v w))))
-    (numbered-cases old.readers k (with_match rows v) r [])
+telling_rows {V} field fresh kept is old (MatchWriter k v) r w = match_rows field fresh kept is old k v r w
 telling_rows {V} field fresh kept is old (UnmatchWriter k v) r w =
     let rows : List WriterProxy = numbered old.readers k [] in
     let of : List WriterProxy → Option V = λ xs. option_map field (row xs w) in
@@ -153,6 +162,8 @@ telling_rows {V} field fresh kept is old (UnmatchWriter k v) r w =
     (λ p. refl) (λ p. kept p Away) rows v w
     ∙ ap (λ (j : ℕ). of (numbered old.readers j [])) (sym s.0))))
     (numbered-cases old.readers k (with_how rows v Away) r [])
+telling_rows {V} field fresh kept is old (MeetReader k v reliable) r w = inl refl
+telling_rows {V} field fresh kept is old (MeetWriter k v as_writer) r w = match_rows field fresh kept is old k v r w
 
 -- a place that is there was there, or there was none and it is 1
 pub telling_places : (old : Rtps) (t : Telling) (r : ℕ) (w : Endpoint)
@@ -169,6 +180,9 @@ telling_count old (UnmatchReader w r) =
     length-with_numbered old.writers w (left (numbered old.writers w no_writer) r)
 telling_count old (MatchWriter r w) = refl
 telling_count old (UnmatchWriter r w) = refl
+telling_count old (MeetReader w r reliable) =
+    length-with_numbered old.writers w (met (numbered old.writers w no_writer) r.end reliable)
+telling_count old (MeetWriter r w as_writer) = refl
 
 -- a value of a writer that no match changes
 telling_put : {X : Type 0} (f : Writer → X) (ws : List Writer) (k : ℕ) (after : Writer)
@@ -179,16 +193,23 @@ telling_put {X} f ws k after same w =
     (numbered-cases ws k after w no_writer)
 
 pub telling_keeps : {X : Type 0} (f : Writer → X) → ((w : Writer) (v : Endpoint) (b : Bool) → f (joined w v b) ≡ f w)
-    → ((w : Writer) (v : Endpoint) → f (left w v) ≡ f w) → (old : Rtps) (t : Telling) (w : ℕ)
+    → ((w : Writer) (v : Endpoint) → f (left w v) ≡ f w)
+    → ((w : Writer) (ks : List TopicReader) → f (record w { known = ks }) ≡ f w) → (old : Rtps) (t : Telling) (w : ℕ)
     → f (numbered (after_telling old t).writers w no_writer) ≡ f (numbered old.writers w no_writer)
-telling_keeps {X} f joining leaving old (MatchReader k r reliable) w =
+telling_keeps {X} f joining leaving knows old (MatchReader k r reliable) w =
     let before : Writer = numbered old.writers k no_writer in
     telling_put f old.writers k (joined before r reliable) (joining before r reliable) w
-telling_keeps {X} f joining leaving old (UnmatchReader k r) w =
+telling_keeps {X} f joining leaving knows old (UnmatchReader k r) w =
     let before : Writer = numbered old.writers k no_writer in
     telling_put f old.writers k (left before r) (leaving before r) w
-telling_keeps {X} f joining leaving old (MatchWriter r v) w = refl
-telling_keeps {X} f joining leaving old (UnmatchWriter r v) w = refl
+telling_keeps {X} f joining leaving knows old (MatchWriter r v) w = refl
+telling_keeps {X} f joining leaving knows old (UnmatchWriter r v) w = refl
+telling_keeps {X} f joining leaving knows old (MeetReader k r reliable) w =
+    let before : Writer = numbered old.writers k no_writer in
+    telling_put f old.writers k (met before r.end reliable)
+    (met_of (λ x. f x ≡ f before) before r.end reliable
+    (λ ks b. joining (record before { known = ks }) r.end b ∙ knows before ks)) w
+telling_keeps {X} f joining leaving knows old (MeetWriter r v as_writer) w = refl
 
 -- the number of readers with rows
 pub telling_readers : (old : Rtps) (t : Telling) → length (after_telling old t).readers ≡ length old.readers
@@ -198,6 +219,9 @@ telling_readers old (MatchWriter r w) =
     length-with_numbered old.readers r (with_match (numbered old.readers r []) w)
 telling_readers old (UnmatchWriter r w) =
     length-with_numbered old.readers r (with_how (numbered old.readers r []) w Away)
+telling_readers old (MeetReader w r reliable) = refl
+telling_readers old (MeetWriter r w as_writer) =
+    length-with_numbered old.readers r (with_match (numbered old.readers r []) w)
 
 -- ---- what is acknowledged
 
@@ -226,3 +250,8 @@ telling_covered old (UnmatchReader w v) r place k h =
     (λ c. covered_left before v r (place w) (no_less_same (place w)) c) k h
 telling_covered old (MatchWriter n w) r place k h = h
 telling_covered old (UnmatchWriter n w) r place k h = h
+telling_covered old (MeetReader w v reliable) r place k h =
+    let before : Writer = numbered old.writers w no_writer in
+    set_covered old.writers w (met before v.end reliable) r place
+    (λ c. covered_met before v.end reliable r (place w) (no_less_same (place w)) c) k h
+telling_covered old (MeetWriter n w as_writer) r place k h = h

@@ -19,11 +19,11 @@ use Rattle.dds_notices.specs.Listeners.{nobody}
 use Rattle.dds_machine.specs.declared.reply.Move.{Move}
 use Rattle.dds_machine.specs.declared.reply.Move.TheVariants.{Place, Begun as HasBegun}
 use Rattle.dds_machine.specs.declared.reply.Reply.TheVariants.{Reported}
-use Rattle.dds_machine.specs.Part.{Begun, Waiting, opened_with, Part, Writer, no_reader, nothing_seen, owed_from}
+use Rattle.dds_machine.specs.Part.{Begun, Waiting, opened_with, Part, Writer, no_reader, nothing_seen, owed_from, Names}
 use Rattle.dds_base.specs.declared.qos.ReliabilityQos.TheVariants.{BestEffort}
 use Rattle.dds_machine.specs.Moves.{Grounds, as_to, AreMoves, match_of, Begins, Places, DeliveryStep}
 use Rattle.dds_machine.specs.Machine.{Machine, grounds_of}
-use Rattle.dds_machine.specs.Opening.{opening, reader_qos}
+use Rattle.dds_machine.specs.Opening.{opening, reader_names, reader_qos, writer_names}
 use Rattle.dds_protocol.proofs.WorkedReceivers.{prefix_1, prefix_2, r1_id, writer, reader, w1, r1, some_is}
 use Rattle.dds_protocol.proofs.WorkedExamples.{written}
 
@@ -35,6 +35,10 @@ peer_2 = record { prefix = prefix_2; writers = []; readers = reader r1_id 0 ∷ 
 
 abbrev pub pair : HistoryQos → Config
 pair history = record { peers = peer_1 history ∷ peer_2 ∷ [] }
+
+-- the names that both know
+abbrev pub named : Names
+named = record { writers = writer_names 1 (pair KeepAll).peers; readers = reader_names 1 (pair KeepAll).peers }
 
 -- w1, with its limit, what happened there and what r1 has acknowledged
 abbrev pub writing : HistoryQos → Option ℕ → List Written → ℕ → Writer
@@ -56,14 +60,14 @@ writing policy max_samples happened acknowledged =
 abbrev pub part_1 : Writer → Part
 part_1 w =
     record {
-      rtps = record { writers = w ∷ []; readers = [] };
+      rtps = record { writers = w ∷ []; readers = []; names = named };
       dds = record { moment = 0; readers = []; watch = nothing_watched 1 0; listeners = nobody 1 0 };
     }
 
 -- r1 at this place, with the count by which it heard w1 last, and what happened there
 abbrev pub part_2 : ℕ → Option ℤ → List Happening → Part
 part_2 place heard happened = record {
-  rtps = record { writers = []; readers = (record { writer = w1; place = place; heard = heard; how = Begun } ∷ []) ∷ [] };
+  rtps = record { writers = []; readers = (record { writer = w1; place = place; heard = heard; how = Begun } ∷ []) ∷ []; names = named };
   dds =
       record {
         moment = 0;
@@ -371,6 +375,7 @@ waiting place =
       rtps = record {
         writers = [];
         readers = (record { writer = w1; place = place; heard = None; how = Waiting } ∷ []) ∷ [];
+        names = named;
       };
     }
 

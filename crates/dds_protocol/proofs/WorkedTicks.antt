@@ -18,7 +18,7 @@ use Rattle.dds_machine.specs.declared.reply.Reply.TheVariants.{Done}
 use Rattle.dds_machine.specs.Ticks.{RefusesTick, after_tick, is_past_counting, tick_refusal, ticked}
 use Rattle.dds_machine.specs.Calls.{with_written}
 use Rattle.dds_protocol.specs.Claims.{every_reader, participant_entity}
-use Rattle.dds_machine.specs.Part.{opened_with, Part, Writer, heartbeats_used, is_assertion, no_part, no_writer, nothing_seen, own_reader}
+use Rattle.dds_machine.specs.Part.{opened_with, Part, Writer, heartbeats_used, is_assertion, no_part, no_writer, nothing_seen, own_reader, no_names}
 use Rattle.dds_protocol.specs.Contact.{no_contact}
 use Rattle.dds_protocol.specs.DueMessages.{Due, assertions_due, heartbeats_of, reader_entity}
 use Rattle.dds_protocol.specs.Peer.{Peer, known_after, no_peer}
@@ -202,7 +202,7 @@ one_made = record (writing KeepAll None (Changed (write_of 1 1) ∷ []) 2) {
 -- its peer, which knows so much
 abbrev knowing : Known → Peer
 knowing known =
-    record no_peer { part = record no_part { rtps = record { writers = one_made ∷ []; readers = [] } }; known = known }
+    record no_peer { part = record no_part { rtps = record { writers = one_made ∷ []; readers = []; names = no_names } }; known = known }
 
 abbrev greeted : Known
 greeted = known_after (knowing knows_nothing) (MatchReader 1 r1 true) Done
