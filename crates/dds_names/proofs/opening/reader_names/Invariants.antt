@@ -1,0 +1,8 @@
+use Rattle.std.proofs.Common.{◌≡◌, ◌+◌, ◌++◌, drop, map}
+use Rattle.dds_machine.specs.Opening.{reader_names}
+use Rattle.dds_names.specs.Known.{name_of}
+use Rattle.dds_names.proofs.opening.reader_names.Given as goal
+
+abbrev pub invariant-loop-index : goal.invariant-loop-index
+invariant-loop-index l =
+    map name_of l.all.items ++ reader_names (l.index + 1) (drop l.index l.fn.peers) ≡ reader_names 1 l.fn.peers
