@@ -11,7 +11,7 @@ use Rattle.dds_base.specs.declared.qos.MatchedWriter.{MatchedWriter}
 use Rattle.dds_base.specs.declared.qos.ReaderQos.{ReaderQos}
 use Rattle.dds_base.specs.Life.{or_else}
 use Rattle.dds_base.specs.Liveliness.{after_parting, alive_since, has_died, is_alive, lease_of}
-use Rattle.dds_base.specs.Ownership.{AreOfMatched, IsMatched, numbered_from, publication_handles, writer_of, writers_of}
+use Rattle.dds_base.specs.Ownership.{AreOfMatched, numbered_from, publication_handles, writer_of, writers_of}
 use Rattle.dds_base.proofs.JoinLaws.{IsUnheard, handles-joined, kept-writer, newcomer-unheard, next-writer, nobody-joined}
 use Rattle.dds_lease.specs.declared.track.LeaseTrack.{LeaseTrack}
 use Rattle.dds_lease.specs.Track.{fresh, is_dead_track, is_live_track, track_of}

@@ -1,7 +1,7 @@
 -- When what is kept of the leases of a reader's matched writers stands for what happened at that reader.
 --
 -- DDS 1.4, 2.2.3 (LIVELINESS), 2.2.4.1 (LIVELINESS_CHANGED).
-use Rattle.std.specs.Prelude.{◌≡◌, ℕ, ◌-◌, List, count_by, length, map, filter, nat_lt}
+use Rattle.std.specs.Prelude.{◌≡◌, ℕ, ◌-◌, List, count_by, length, map, filter, nat_lt, take}
 use Rattle.dds_base.specs.declared.happening.Happening.{Happening}
 use Rattle.dds_base.specs.declared.qos.ReaderQos.{ReaderQos}
 use Rattle.dds_base.specs.Ownership.{AreOfMatched, publication_handles}
@@ -10,19 +10,18 @@ use Rattle.dds_lease.specs.declared.track.LeaseTrack.{LeaseTrack}
 use Rattle.dds_lease.specs.Track.{track_of}
 use Rattle.dds_lease.specs.Overdue.{is_over_at}
 
--- what is kept; callers see it through writer_count, overdue_of, spare_of and StandsFor
+-- what is kept; callers see it through writer_count, overdue_of, without_last and StandsFor
 pub record Kept : Type 0 where
   pub tracks : List LeaseTrack
   pub last_turned : ℕ
-  pub spare : ℕ
 
 -- how many writers are matched
 abbrev pub writer_count : Kept → ℕ
 writer_count kept = length kept.tracks
 
--- for how many writers more there is memory
-abbrev pub spare_of : Kept → ℕ
-spare_of kept = kept.spare
+-- what is kept, but for the last writer
+abbrev pub without_last : Kept → Kept
+without_last kept = record kept { tracks = take (length kept.tracks - 1) kept.tracks }
 
 -- how many leases are over at this moment
 abbrev pub overdue_of : Kept → ℕ → ℕ

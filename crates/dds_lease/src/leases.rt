@@ -2,7 +2,7 @@
 //!
 //! DDS 1.4, 2.2.3 (LIVELINESS), 2.2.4.1 (LIVELINESS_CHANGED).
 
-ghost use Rattle.std.specs.Prelude.{◌≡◌, ◌+◌, ◌≤◌, ◌<◌, ◌||◌, List, [], ◌∷◌, length, IsOk, OnOk, OnErr, find, nat_lt, IfOk, IfErr, IfNone, IfSome, MatchOption, false};
+ghost use Rattle.std.specs.Prelude.{◌≡◌, ◌+◌, ◌≤◌, ◌<◌, ◌||◌, List, [], ◌∷◌, length, OnOk, OnErr, find, nat_lt, IfOk, IfErr, IfNone, IfSome, MatchOption, false};
 ghost use Rattle.dds_base.specs.declared.code.Code.TheVariants.{Memory};
 ghost use Rattle.dds_base.specs.declared.happening.Arrival.{Arrival};
 ghost use Rattle.dds_base.specs.declared.happening.Happening.{Happening};
@@ -10,7 +10,7 @@ ghost use Rattle.dds_base.specs.declared.happening.Happening.TheVariants.{Came, 
 ghost use Rattle.dds_base.specs.declared.qos.ReaderQos.{ReaderQos};
 ghost use Rattle.dds_base.specs.Liveliness.{after_parting, alive_count, dead_at, is_alive, is_dead, last_turned, not_alive_count};
 ghost use Rattle.dds_base.specs.Ownership.{IsMatched, writers_of};
-ghost use Rattle.dds_lease.specs.Standing.{Kept, StandsFor, after_deaths_above, overdue_of, spare_of, writer_count};
+ghost use Rattle.dds_lease.specs.Standing.{Kept, StandsFor, after_deaths_above, overdue_of, without_last, writer_count};
 
 use crate::track::{LeaseTrack, count_over, find_over, fresh_tracks, push_fresh};
 use dds_base::{Code, Handle, MatchedWriter, Moment, ReaderQos};
@@ -34,7 +34,7 @@ pub struct Leases {
 }
 
 impl Model for Leases {
-    ghost use Rattle.std.specs.Prelude.{◌≡◌, ◌-◌, count_by, vec_capacity, vec_len};
+    ghost use Rattle.std.specs.Prelude.{◌≡◌, count_by};
     ghost use Rattle.dds_lease.specs.Track.{is_dead_track, is_live_track};
     ghost use Rattle.dds_lease.specs.Standing.{Kept};
 
@@ -43,7 +43,6 @@ impl Model for Leases {
     ghost view = { λ l. record {
       tracks = l.tracks.items;
       last_turned = l.last_turned;
-      spare = vec_capacity l.tracks - vec_len l.tracks;
     } };
 
     ghost invariant = { λ l. (l.alive ≡ count_by is_live_track l.tracks.items)
@@ -82,36 +81,12 @@ impl Leases {
         self.tracks.len()
     }
 
-    /// Makes the memory for one writer more: the next one that joins then finds it.
-    ///
-    /// # Errors
-    ///
-    /// `Memory` where a growth was refused; nothing has changed then.
-    pub fn reserve(&mut self) -> Result<(), Code>
-        // It stands for what it stood for.
-        ensures same { (q : ReaderQos) (h : List Happening) → StandsFor self.old q h
-            → StandsFor self.new q h }
-        // There is memory for one writer.
-        ensures spare { OnOk result (1 ≤ spare_of self.new) }
-        // Where there was it succeeds.
-        ensures succeeds { 1 ≤ spare_of self.old → IsOk result }
-        // The writers stay the same ones.
-        ensures writers { writer_count self.new ≡ writer_count self.old }
-        // A refusal leaves it as it was.
-        ensures err { OnErr result (self.new ≡ self.old) }
-        // It is refused for want of memory alone.
-        ensures memory { IfErr result (λ code. code ≡ Memory) }
-    {
-        self.tracks.reserve(1)?;
-        Ok(())
-    }
-
     /// A writer is matched that was not known: it has the next publication handle, and is neither alive nor not alive until it
     /// is asserted. All memory is asked for before anything changes.
     ///
     /// # Errors
     ///
-    /// `Memory` where a growth was refused, and never where memory was reserved; nothing has changed then.
+    /// `Memory` where a growth was refused; nothing has changed then.
     ///
     /// RTPS 2.5, 8.4.10 (matched_writer_add); DDS 1.4, 2.2.4.1 (LivelinessChangedStatus: alive_count, not_alive_count).
     pub fn join(&mut self, writer: MatchedWriter) -> Result<(), Code>
@@ -120,16 +95,28 @@ impl Leases {
             → StandsFor self.new q (Joined writer ∷ h)) }
         // There is one writer more.
         ensures writers { OnOk result (writer_count self.new ≡ writer_count self.old + 1) }
-        // Where there was memory for it, it succeeds.
-        ensures reserved { 1 ≤ spare_of self.old → IsOk result }
+        // Without it, all would be as it was.
+        ensures before { OnOk result (without_last self.new ≡ self.old) }
         // A refusal leaves it as it was.
         ensures err { OnErr result (self.new ≡ self.old) }
         // It is refused for want of memory alone.
         ensures memory { IfErr result (λ code. code ≡ Memory) }
     {
-        self.reserve()?;
+        self.tracks.reserve(1)?;
         push_fresh(&mut self.tracks, writer);
         Ok(())
+    }
+
+    /// Forgets the writer of the greatest handle, as where what else its match wants is refused.
+    pub fn forget_last(&mut self)
+        // It forgets that one, and nothing else.
+        ensures forgets { self.new ≡ without_last self.old }
+    {
+        let Some(track) = self.tracks.pop() else {
+            return;
+        };
+        self.alive -= usize::from(track.since.is_some());
+        self.not_alive -= usize::from(track.has_died && track.since.is_none());
     }
 
     /// A writer is asserted at this moment: a change of it came, or it was heard.

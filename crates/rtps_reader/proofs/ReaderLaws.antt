@@ -408,6 +408,12 @@ sound_more [] new sound is (suc k) p at = absurd (cc)
 sound_more (x ∷ rest) new sound is zero p at = sound zero p at
 sound_more (x ∷ rest) new sound is (suc k) p at = sound_more rest new (λ j q. sound (suc j) q) is k p at
 
+-- of those of a list, each is sound where all are
+pub sound_less : (items more : List KnownWriter) → AreSound (items ++ more) → AreSound items
+sound_less [] more sound index w at = absurd (let nothing : ◌≡◌ {A = Option KnownWriter} None (Some w) = at in cc)
+sound_less (x ∷ rest) more sound zero w at = sound zero w at
+sound_less (x ∷ rest) more sound (suc k) w at = sound_less rest more (λ j q. sound (suc j) q) k w at
+
 tracks_here : (proxy : KnownWriter) (items : List KnownWriter) (t : Tracked) → SameTracked (tracked proxy.proxy) t
     → Tracks (record { writers = items ++ proxy ∷ [] }) (length items) t
 tracks_here proxy [] t same = (proxy, refl, same)

@@ -3,7 +3,7 @@
 --
 -- RTPS 2.5, 8.4.10 (StatefulReader: matched_writers), 8.4.11, 8.4.12.
 use Rattle.std.specs.Prelude.{◌≡◌, ◌≢◌, ℕ, ◌+◌, ◌&&◌, Bool, true, false, not, nat_le, max, List, []}
-use Rattle.std.specs.Prelude.{None, Some}
+use Rattle.std.specs.Prelude.{◌-◌, None, Some, length, take}
 use Rattle.dds_base.specs.declared.change.Change.{Change}
 use Rattle.dds_base.specs.declared.happening.Happening.{Happening}
 use Rattle.dds_base.specs.Places.{Match}
@@ -108,3 +108,7 @@ pub record HasOneMore (old new : Proxies) : Type 0 where
   pub fresh_here : Tracks new (count_of old) fresh
   pub others : (index : ℕ) → index ≢ count_of old → how_at new index ≡ how_at old index
   pub known : AllStay old new
+
+-- a reader without its last writer
+abbrev pub without_last : Proxies → Proxies
+without_last reader = record { writers = take (length reader.writers - 1) reader.writers }

@@ -11,7 +11,7 @@ ghost use Rattle.rtps_reader.specs.Tracked.{Tracked, fresh, may_take, with_data,
 ghost use Rattle.rtps_reader.specs.Answer.{IsIdle};
 ghost use Rattle.rtps_reader.specs.declared.attachment.Attachment.TheVariants.{Away, Waiting, Begun};
 ghost use Rattle.rtps_reader.specs.Reader.{Tracks, how_at, count_of, IsReady, IsReadyAt, AllStay, AllStand, match_at, KeepsRest};
-ghost use Rattle.rtps_reader.specs.Attached.{goes_on, no_news, StandsNow, HasOneMore, MeetsNews, MeetsChange, MeetsHeartbeat, MeetsBeat};
+ghost use Rattle.rtps_reader.specs.Attached.{goes_on, no_news, without_last, StandsNow, HasOneMore, MeetsNews, MeetsChange, MeetsHeartbeat, MeetsBeat};
 
 use crate::attachment::Attachment;
 use crate::known_writer::KnownWriter;
@@ -138,6 +138,8 @@ impl StatefulReader {
     pub fn append(&mut self, alloc: Global) -> Result<(), Code>
         // It comes after all others, which stay.
         ensures ok { OnOk result (HasOneMore self.old self.new) }
+        // Without it, the reader would be as it was.
+        ensures before { OnOk result (without_last self.new ≡ self.old) }
         // A refusal changes nothing.
         ensures err { OnErr result (self.new ≡ self.old) }
         // It is refused for want of memory alone.
@@ -146,6 +148,14 @@ impl StatefulReader {
         let writer = KnownWriter::open(alloc, Attachment::Waiting)?;
         self.writers.push(writer)?;
         Ok(())
+    }
+
+    /// Forgets the writer that it knows last, as where what else a match wants is refused.
+    pub fn forget_last(&mut self)
+        // It forgets that one, and nothing else.
+        ensures forgets { self.new ≡ without_last self.old }
+    {
+        let _ = self.writers.pop();
     }
 
     /// Whether a change of this number of a writer does something at a reliable reader: it is held, or the place may go
