@@ -1,19 +1,23 @@
 -- How many readers can be named, each once, where so many are known; and what is known of one.
-use Rattle.std.proofs.Common.{◌≡◌, ℕ, zero, suc, ◌+◌, ◌<◌, ◌≤◌, Bool, true, false, ◌||◌, List, [], ◌∷◌, Option, Some, map, drop, length, get_or, slice_get, refl, ap, sym, ◌∙◌, arith}
+use Rattle.std.proofs.Common.{◌≡◌, ℕ, zero, suc, ◌+◌, ◌<◌, ◌≤◌, ◌==◌, Bool, true, false, ◌||◌, List, [], ◌∷◌, Option, Some, map, drop, length, get_or, slice_get, refl, ap, sym, ◌∙◌, arith}
 use Rattle.std.specs.Prelude.{if◌then◌else◌, is_some}
 use Rattle.std.specs.Option.{option_map_or}
 use Rattle.std.proofs.lemmas.List.{length-map}
 use Rattle.std.proofs.lemmas.Option.{same_Some}
 use Rattle.dds_base.specs.declared.endpoint.Endpoint.{Endpoint}
+use Rattle.dds_machine.specs.Matching.{max_known}
 use Rattle.dds_machine.specs.Part.{TopicReader, row_of, same_endpoint}
 use Rattle.dds_machine.proofs.Tables.{same_is}
+use Rattle.dds_protocol.specs.Dues.{AreFew}
 use Rattle.dds_protocol.proofs.InOrder.{same_self}
 use Rattle.rtps_writer.specs.Standing.{Kept}
 use Rattle.dds_ends.specs.declared.matching.Destination.{Destination}
 use Rattle.dds_ends.specs.declared.matching.ReaderName.{ReaderName}
 use Rattle.dds_ends.specs.declared.matching.TopicName.{TopicName}
+use Rattle.dds_ends.specs.Beating.{names_at}
 use Rattle.dds_ends.specs.Standing.{IsWhole}
-use Rattle.dds_ends.specs.MatchedEnds.{AreAmong, AreNamedOnce, is_named, known_as, names_of, topic_reader}
+use Rattle.dds_ends.specs.MatchedEnds.{AreAmong, AreNamedOnce, is_named, known_as, names_of, readers_of, topic_reader}
+use Rattle.dds_ends.proofs.FewAt.{count-cons, few_at, few_names, is_at, one_if}
 
 -- ---- how many
 
@@ -51,30 +55,69 @@ still_named reader e (n ∷ ns) apart is =
     by false true p q h later = ap (λ (b : Bool). b || is_named (cut reader ns) e) q
     by false false p q h later = ap (λ (b : Bool). b || is_named (cut reader ns) e) q ∙ later h
 
+-- the first of these is named, and so are the others, each but once
+named_first : (n : ReaderName) (ns : List ReaderName) → is_named (n ∷ ns) n.reader ≡ true
+named_first n ns = ap (λ (b : Bool). b || is_named ns n.reader) (same_self n.reader)
+
+named_later : (n : ReaderName) (ns : List ReaderName) (e : Endpoint) → is_named ns e ≡ true
+    → is_named (n ∷ ns) e ≡ true
+named_later n ns e is = late (same_endpoint n.reader e) is
+  where
+    late : (b : Bool) → is_named ns e ≡ true → (b || is_named ns e) ≡ true
+    late true h = refl
+    late false h = h
+
+named_apart : (n : ReaderName) (ns : List ReaderName) → is_named ns n.reader ≡ false → (e : Endpoint)
+    → is_named ns e ≡ true → same_endpoint n.reader e ≡ false
+named_apart n ns none e is = by (same_endpoint n.reader e) refl
+  where
+    by : (b : Bool) → same_endpoint n.reader e ≡ b → same_endpoint n.reader e ≡ false
+    by false h = h
+    by true h =
+        let again : is_named ns n.reader ≡ true =
+        ap (λ (x : Endpoint). is_named ns x) (same_is n.reader e h) ∙ is in absurd cc
+
 no_more : (ns ms : List ReaderName) → AreNamedOnce ns
     → ((e : Endpoint) → is_named ns e ≡ true → is_named ms e ≡ true) → length ns ≤ length ms
 no_more [] ms once there = omega arith
 no_more (n ∷ ns) ms once there =
-    let here = there n.reader (ap (λ (b : Bool). b || is_named ns n.reader) (same_self n.reader)) in
+    let here = there n.reader (named_first n ns) in
     let less = shorter n.reader ms here in
     let rest =
     no_more ns (cut n.reader ms) once.1
-    (λ e is. still_named n.reader e ms (apart e is) (there e (late (same_endpoint n.reader e) e is))) in
+    (λ e is. still_named n.reader e ms (named_apart n ns once.0 e is) (there e (named_later n ns e is))) in
     omega (arith, less, rest)
-  where
-    late : (b : Bool) (e : Endpoint) → is_named ns e ≡ true → (b || is_named ns e) ≡ true
-    late true e h = refl
-    late false e h = h
 
-    apart : (e : Endpoint) → is_named ns e ≡ true → same_endpoint n.reader e ≡ false
-    apart e is = by (same_endpoint n.reader e) refl
-      where
-        by : (b : Bool) → same_endpoint n.reader e ≡ b → same_endpoint n.reader e ≡ false
-        by false h = h
-        by true h =
-            let again : is_named ns n.reader ≡ true =
-            ap (λ (x : Endpoint). is_named ns x) (same_is n.reader e h) ∙ is in
-            let none = once.0 in absurd cc
+-- the same of those at a peer
+shorter_at : (reader : Endpoint) (peer : ℕ) (ns : List ReaderName) → is_named ns reader ≡ true
+    → names_at (cut reader ns) peer + one_if (reader.peer == peer) ≡ names_at ns peer
+unfolding cut
+shorter_at reader peer [] is = absurd cc
+shorter_at reader peer (n ∷ ns) is = by (same_endpoint n.reader reader) refl is (shorter_at reader peer ns)
+  where
+    by : (b : Bool) → same_endpoint n.reader reader ≡ b → (b || is_named ns reader) ≡ true
+        → (is_named ns reader ≡ true → names_at (cut reader ns) peer + one_if (reader.peer == peer) ≡ names_at ns peer)
+        → names_at (if b then ns else n ∷ cut reader ns) peer + one_if (reader.peer == peer) ≡ names_at (n ∷ ns) peer
+    by true same h later =
+        let all = count-cons (is_at peer) n ns in
+        let here = ap (λ (e : Endpoint). one_if (e.peer == peer)) (same_is n.reader reader same) in
+        omega (arith, all, here)
+    by false same h later =
+        let rest = later h in
+        let all = count-cons (is_at peer) n ns in
+        let left = count-cons (is_at peer) n (cut reader ns) in omega (arith, rest, all, left)
+
+no_more_at : (peer : ℕ) (ns ms : List ReaderName) → AreNamedOnce ns
+    → ((e : Endpoint) → is_named ns e ≡ true → is_named ms e ≡ true) → names_at ns peer ≤ names_at ms peer
+no_more_at peer [] ms once there = omega arith
+no_more_at peer (n ∷ ns) ms once there =
+    let here = there n.reader (named_first n ns) in
+    let less = shorter_at n.reader peer ms here in
+    let all = count-cons (is_at peer) n ns in
+    let rest =
+    no_more_at peer ns (cut n.reader ms) once.1
+    (λ e is. still_named n.reader e ms (named_apart n ns once.0 e is) (there e (named_later n ns e is))) in
+    omega (arith, less, all, rest)
 
 -- no more readers are named than are known
 pub as_few : (known : List TopicName) (names : List ReaderName) → AreAmong known names → length names ≤ length known
@@ -82,6 +125,14 @@ as_few known names are =
     let fewer = no_more names (names_of known) are.once are.there in
     let size = length-map known (λ (k : TopicName). k.name) in
     omega (arith, fewer, size)
+
+-- nor more at a peer
+pub as_few_at : (known : List TopicName) (names : List ReaderName) → AreAmong known names
+    → AreFew (readers_of (names_of known)) → AreFew (readers_of names)
+as_few_at known names are few =
+    few_names names (λ peer.
+    let fewer = no_more_at peer names (names_of known) are.once are.there in
+    let most = few_at (names_of known) peer few in omega (arith, fewer, most))
 
 -- the reliable readers of a whole writer are among those that it knows
 pub rows_are : {most : ℕ} {known : List TopicName} {matched : List ReaderName} {to : List Destination}
@@ -91,7 +142,8 @@ rows_are whole = record { once = whole.once; there = λ e is. whole.matched_are.
 
 -- so many readers a whole writer is matched with
 pub few_matched : {most : ℕ} {known : List TopicName} {matched : List ReaderName} {to : List Destination}
-    {readers : List ReaderName} {writer : Kept} → IsWhole most known matched to readers writer → length matched ≤ 256
+    {readers : List ReaderName} {writer : Kept} → IsWhole most known matched to readers writer
+    → length matched ≤ max_known
 few_matched {known = known} {matched = matched} whole =
     let few = as_few known matched whole.matched_are in
     let limit = whole.limited in

@@ -14,7 +14,7 @@ abbrev pub one_if : Bool → ℕ
 one_if b = cond b 1 0
 
 -- the first row, and those after it
-count_cons : (p : WriterProxy) (ps : List WriterProxy)
+pub count_cons : (p : WriterProxy) (ps : List WriterProxy)
     → attached_count (p ∷ ps) ≡ one_if (is_attached p.how) + attached_count ps
 count_cons p ps = sum_by-cons (λ (q : WriterProxy). cond (is_attached q.how) 1 0) p ps
 

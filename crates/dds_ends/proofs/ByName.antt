@@ -2,7 +2,9 @@
 use Rattle.std.proofs.Common.{◌≡◌, ◌⊎◌, ⊎_elim, ℕ, ◌+◌, ◌<◌, ◌≤◌, ◌==◌, Bool, true, false, cond, ◌&&◌, List, [], ◌∷◌, ◌++◌, map, take, length, get_or, refl, ap, sym, ◌∙◌, subst, arith, append_assoc, append-nil, length-append}
 use Rattle.std.specs.Prelude.{filter}
 use Rattle.std.specs.List.{AllByRecursion}
+use Rattle.std.proofs.lemmas.List.{take_more}
 use Rattle.std.proofs.lemmas.List.Elements.{filter-append}
+use Rattle.std.proofs.lemmas.List.Sums.{count_by_more_no, count_by_more_yes}
 use Rattle.dds_base.specs.declared.endpoint.Endpoint.{Endpoint}
 use Rattle.dds_base.specs.declared.guid.GuidPrefix.{GuidPrefix}
 use Rattle.rtps_wire.specs.declared.submessage.Submessage.{Submessage}
@@ -16,8 +18,9 @@ use Rattle.dds_protocol.specs.Contact.{Contact}
 use Rattle.dds_protocol.specs.DueMessages.{is_told}
 use Rattle.dds_ends.specs.declared.heartbeat.Beat.{Beat}
 use Rattle.dds_ends.specs.declared.matching.ReaderName.{ReaderName}
-use Rattle.dds_ends.specs.Beating.{AddsBare, AreReadersOf, ForEach, beat_for, beats_for, names_told}
+use Rattle.dds_ends.specs.Beating.{AddsBare, AreReadersOf, ForEach, beat_for, beats_for, names_at, names_told}
 use Rattle.dds_ends.proofs.Beating.{map_if, names_next, no_row}
+use Rattle.dds_ends.proofs.FewAt.{is_at, one_if}
 use Rattle.dds_ends.proofs.Joining.{no_name}
 use Rattle.dds_ends.proofs.Replies.{both_octets, more_spells}
 
@@ -52,14 +55,15 @@ pub record Pushed (beat : Beat) (kept : Kept) (names : List ReaderName)
 
 -- one more
 pub pushed_one : (beat : Beat) (kept : Kept) (names : List ReaderName)
-    (told more : Writer → (Endpoint → Contact) → List ReaderName) (count peer : ℕ) (n : ReaderName)
-    (old mid new : List Submessage) → Pushed beat kept names told count peer old mid → AddsBare 1 mid new
+    (told more : Writer → (Endpoint → Contact) → List ReaderName) (count next peer : ℕ) (n : ReaderName)
+    (old mid new : List Submessage) → count + 1 ≤ next → Pushed beat kept names told count peer old mid
+    → AddsBare 1 mid new
     → ForEach beat.due.first kept names (λ w answered. new ≡ mid ++ beat_for beat w answered n ∷ [])
     → ForEach beat.due.first kept names
     (λ w answered. beats_for beat w answered (more w answered) peer
     ≡ beats_for beat w answered (told w answered) peer ++ beat_for beat w answered n ∷ [])
-    → Pushed beat kept names more (count + 1) peer old new
-pushed_one beat kept names told more count peer n old mid new before one adds are =
+    → Pushed beat kept names more next peer old new
+pushed_one beat kept names told more count next peer n old mid new past before one adds are =
     let first = before.bare in
     let longer = first.more in
     let few = first.few in
@@ -71,7 +75,7 @@ pushed_one beat kept names told more count peer n old mid new before one adds ar
       bare = record {
         each = λ h. one.each (first.each h);
         more = omega (arith, longer, then_longer);
-        few = omega (arith, few, then_few);
+        few = omega (arith, few, then_few, past);
         bare = omega (arith, bare, then_bare);
       };
       adds = λ w answered b.
@@ -83,23 +87,34 @@ pushed_one beat kept names told more count peer n old mid new before one adds ar
 
 -- one more that is told nothing
 pub pushed_same : (beat : Beat) (kept : Kept) (names : List ReaderName)
-    (told more : Writer → (Endpoint → Contact) → List ReaderName) (count peer : ℕ)
-    (old new : List Submessage) → Pushed beat kept names told count peer old new
+    (told more : Writer → (Endpoint → Contact) → List ReaderName) (count next peer : ℕ)
+    (old new : List Submessage) → count ≤ next → Pushed beat kept names told count peer old new
     → ForEach beat.due.first kept names
     (λ w answered. beats_for beat w answered (more w answered) peer ≡ beats_for beat w answered (told w answered) peer)
-    → Pushed beat kept names more (count + 1) peer old new
-pushed_same beat kept names told more count peer old new before are =
+    → Pushed beat kept names more next peer old new
+pushed_same beat kept names told more count next peer old new past before are =
     let few = before.bare.few in
     record {
       bare = record {
         each = before.bare.each;
         more = before.bare.more;
-        few = omega (arith, few);
+        few = omega (arith, few, past);
         bare = before.bare.bare;
       };
       adds = λ w answered b.
           before.adds w answered b ∙ ap (λ (ss : List Submessage). old ++ ss) (sym (are w answered b));
     }
+
+-- how many of these readers are at a peer, with one more
+pub names_at_next : (names : List ReaderName) (row peer : ℕ) → row < length names
+    → names_at (take row names) peer + one_if (is_at peer (get_or names row no_name))
+    ≤ names_at (take (row + 1) names) peer
+names_at_next names row peer lt = by (is_at peer (get_or names row no_name)) refl
+  where
+    by : (b : Bool) → is_at peer (get_or names row no_name) ≡ b
+        → names_at (take row names) peer + one_if b ≤ names_at (take (row + 1) names) peer
+    by true is = let same = count_by_more_yes (is_at peer) names row no_name lt is in omega (arith, same)
+    by false is = let same = count_by_more_no (is_at peer) names row no_name lt is in omega (arith, same)
 
 -- ---- whom they are for
 
@@ -173,6 +188,37 @@ same_told beat answered w names row peer same lt either =
     nothing : (a : Bool) → before ++ cond (a && false) one [] ≡ before ++ []
     nothing true = refl
     nothing false = refl
+
+-- ---- those of them all that are at a peer
+
+-- one more of them is there
+pub matched_one : (beat : Beat) (kept : Kept) (names matched : List ReaderName) (row peer : ℕ) (d : ReaderName)
+    (old mid new : List Submessage) → row < length matched → ((get_or matched row d).reader.peer == peer) ≡ true
+    → Pushed beat kept names (λ w answered. take row matched) (names_at (take row matched) peer) peer old mid
+    → AddsBare 1 mid new
+    → ForEach beat.due.first kept names (λ w answered. new ≡ mid ++ beat_for beat w answered (get_or matched row d) ∷ [])
+    → Pushed beat kept names (λ w answered. take (row + 1) matched) (names_at (take (row + 1) matched) peer) peer old new
+matched_one beat kept names matched row peer d old mid new lt is before one adds =
+    pushed_one beat kept names (λ w answered. take row matched) (λ w answered. take (row + 1) matched)
+    (names_at (take row matched) peer) (names_at (take (row + 1) matched) peer) peer (get_or matched row d) old mid new
+    (let more = count_by_more_yes (is_at peer) matched row d lt is in omega (arith, more)) before one adds
+    (λ w answered b.
+    ap (λ (ns : List ReaderName). beats_for beat w answered ns peer) (take_more matched row d lt)
+    ∙ beats_last beat w answered (take row matched) (get_or matched row d) peer true is)
+
+-- or it is not
+pub matched_same : (beat : Beat) (kept : Kept) (names matched : List ReaderName) (row peer : ℕ) (d : ReaderName)
+    (old new : List Submessage) → row < length matched → ((get_or matched row d).reader.peer == peer) ≡ false
+    → Pushed beat kept names (λ w answered. take row matched) (names_at (take row matched) peer) peer old new
+    → Pushed beat kept names (λ w answered. take (row + 1) matched) (names_at (take (row + 1) matched) peer) peer old new
+matched_same beat kept names matched row peer d old new lt is before =
+    pushed_same beat kept names (λ w answered. take row matched) (λ w answered. take (row + 1) matched)
+    (names_at (take row matched) peer) (names_at (take (row + 1) matched) peer) peer old new
+    (let more = count_by_more_no (is_at peer) matched row d lt is in omega (arith, more)) before
+    (λ w answered b.
+    ap (λ (ns : List ReaderName). beats_for beat w answered ns peer) (take_more matched row d lt)
+    ∙ (beats_last beat w answered (take row matched) (get_or matched row d) peer false is
+    ∙ append-nil (beats_for beat w answered (take row matched) peer)))
 
 -- ---- a message
 

@@ -118,6 +118,7 @@ expires kept now store qos died = record {
     writers_are = s.writers_are;
     places = s.places;
     knows = s.knows;
+    others = s.others;
     qos_is = s.qos_is ∙ sym qos;
     holds =
         subst (λ (q : ReaderQos). Holds store (after_deaths q now r.happened)) (sym s.qos_is) (died r.happened s.holds);

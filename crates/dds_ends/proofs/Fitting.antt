@@ -1,5 +1,5 @@
 -- A reader whose policies are the same, and that has as many writers, fits them as well.
-use Rattle.std.proofs.Common.{◌≡◌, Bool, List, ap, ◌∙◌, arith}
+use Rattle.std.proofs.Common.{◌≡◌, Bool, List, ap, ◌∙◌}
 use Rattle.dds_base.specs.declared.qos.ReaderQos.{ReaderQos}
 use Rattle.dds_base.specs.Matched.{is_reliable}
 use Rattle.dds_cache.specs.Standing.{qos_of}
@@ -14,11 +14,9 @@ pub fits_on : {names : List WriterName} {old new : Proxies} {before after : Stor
     → writer_count after.leases ≡ writer_count before.leases
     → count_of new ≡ count_of old → FitsWriters names new after reliable
 fits_on fits qos same count =
-    let few = fits.fits in
-    let many = fits.many in
     record {
       policy = ap (λ (q : ReaderQos). is_reliable q.reliability) qos ∙ fits.policy;
       count = count ∙ fits.count;
-      fits = omega (arith, few, same);
-      many = omega (arith, many, same);
+      fits = same ∙ fits.fits;
+      many = fits.many;
     }

@@ -32,7 +32,7 @@ use Rattle.dds_ends.proofs.Joining.{any_more, counts_stay, once_more, place_ther
 use Rattle.dds_ends.proofs.Among.{as_few, is_known_as, row_known, rows_are}
 use Rattle.dds_ends.proofs.FirstPeers.{any-map, first_peers_are, first_peers_last}
 use Rattle.dds_ends.proofs.Leaving.{named_alike}
-use Rattle.dds_ends.proofs.MatchedAt.{IsNamedSo, known_opened}
+use Rattle.dds_ends.proofs.MatchedAt.{IsNamedSo, known_so}
 use Rattle.dds_ends.proofs.Numbered.{append_get}
 
 either : (a b c d : Bool) → (a || b) ≡ true → (a ≡ true → c ≡ true) → (b ≡ true → d ≡ true) → (c || d) ≡ true
@@ -462,6 +462,7 @@ whole_more most known matched more to peers readers names old after name is_reli
     let size = length-map peers (λ (d : Destination). d.peer) in
     record {
       limited = limit;
+      few_at = whole.few_at;
       matched_are = matched_are;
       once = names_are.once;
       among = λ e is.
@@ -546,8 +547,7 @@ joins_at kept reader greeted k readers counts matches writer may rows places mak
       (ap (λ (c : Contact). c.silent) here ∙ ap (λ (b : Bool). greeted && b) (reliable w answered s))));
   ends = λ peers topic is ends.
       ends_join peers topic kept.matched kept.readers readers kept.destinations k.name k.is_reliable rows
-      (known_opened peers topic found.2.0 k
-      (ap (λ (ks : List TopicName). slice_get ks found.2.0) (sym is) ∙ found.2.1)) ends;
+      (known_so peers topic k (is found.2.0 k found.2.1)) ends;
 }
   where
     found : (k.name.reader ≡ reader) × (is_named (names_of kept.known) reader ≡ true)

@@ -357,6 +357,7 @@ whole_left most known matched to readers names old after reader row whole first 
     without_first readers reader row first.name first.at first.is whole.once ∙ sym are in
     record {
       limited = whole.limited;
+      few_at = whole.few_at;
       matched_are = whole.matched_are;
       once = subst (λ (ns : List ReaderName). AreNamedOnce ns) left (once_without readers reader whole.once);
       among = λ e is.
@@ -426,6 +427,7 @@ whole_without most known matched left_names to peers readers writer reader whole
     let few = whole.few in
     record {
       limited = whole.limited;
+      few_at = whole.few_at;
       matched_are =
           subst (λ (ns : List ReaderName). AreAmong known ns) (sym are)
           (among_without known matched reader whole.matched_are);

@@ -1,3 +1,4 @@
+pub mod FewAt
 pub mod PacketsLeft
 pub mod Announcing
 pub mod Beating
@@ -7,6 +8,8 @@ pub mod Asserting
 pub mod Dying
 pub mod Attachments
 pub mod Parting
+pub mod Knowing
+pub mod MeetingWriters
 pub mod Destinations
 pub mod Identities
 pub mod Lists
@@ -35,6 +38,7 @@ pub mod Leaving
 pub mod Among
 pub mod Leaves
 pub mod Joins
+pub mod Meetings
 pub mod Refusing
 pub mod Marked
 pub mod Results

@@ -13,7 +13,7 @@ use Rattle.dds_ends.specs.declared.matching.ReaderName.{ReaderName}
 use Rattle.dds_ends.specs.declared.matching.TopicName.{TopicName}
 use Rattle.dds_ends.specs.EndNames.{all_names, reader_name, reader_names, topic_name, topic_names}
 use Rattle.dds_ends.specs.Matching.{destinations}
-use Rattle.dds_ends.specs.MatchedEnds.{AreMatchedNow, AreNamedOnce, IsNameOf, IsReliableName, is_named, readers_of}
+use Rattle.dds_ends.specs.MatchedEnds.{AreKnownReaders, AreMatchedNow, AreNamedOnce, IsKnownReader, IsNameOf, IsReliableName, is_named, readers_of}
 use Rattle.dds_ends.proofs.Destinations.{among_at, is_peer, peers_are}
 use Rattle.dds_ends.proofs.Lists.{map-get}
 use Rattle.dds_ends.proofs.Named.{told}
@@ -165,31 +165,36 @@ abbrev pub IsNamedSo : List PeerConfig → ℕ → ReaderName → Bool → Type 
 IsNamedSo peers topic name true = IsReliableName peers topic name
 IsNamedSo peers topic name false = IsNameOf peers topic name
 
--- what is known of a reader of the topic is so
-pub known_opened : (peers : List PeerConfig) (topic k : ℕ) (known : TopicName)
-    → slice_get (topic_names topic peers) k ≡ Some known → IsNamedSo peers topic known.name known.is_reliable
-known_opened peers topic k known at =
+-- what is known of the readers of the topic is so
+pub all_opened : (peers : List PeerConfig) (topic : ℕ) → AreKnownReaders peers topic (topic_names topic peers)
+all_opened peers topic k known at =
     let t =
     is_told peers (λ (p : PeerConfig). p.readers) any_reader (λ (r : ReaderConfig). r.topic) topic_name topic k known
     at in
-    subst (λ (x : TopicName). IsNamedSo peers topic x.name x.is_reliable) t.told
-    (by (is_reliable_reader t.end) (reader_name t.number t.peer t.end_number t.end) t.end (record {
-      is = record {
-        peer = t.peer;
-        at_peer = t.at_peer;
-        end = t.end;
-        at_reader = t.at_end;
-        same_topic = t.same_topic;
+    subst (λ (x : TopicName). IsKnownReader peers topic x) t.told
+    (record {
+      name_is = record {
+        is = record {
+          peer = t.peer;
+          at_peer = t.at_peer;
+          end = t.end;
+          at_reader = t.at_end;
+          same_topic = t.same_topic;
+        };
+        same_prefix = refl;
+        same_entity = refl;
       };
-      same_prefix = refl;
-      same_entity = refl;
-    }) refl refl)
+      as_reliable = refl;
+    })
+
+-- what is known of a reader is so of its name
+pub known_so : (peers : List PeerConfig) (topic : ℕ) (known : TopicName) → IsKnownReader peers topic known
+    → IsNamedSo peers topic known.name known.is_reliable
+known_so peers topic known is = by known.is_reliable is.as_reliable
   where
-    by : (b : Bool) (name : ReaderName) (end : ReaderConfig) (is : IsNameOf peers topic name) → is.is.end ≡ end
-        → is_reliable_reader end ≡ b → IsNamedSo peers topic name b
-    by true name end is same reliable =
-        record { name_is = is; reliable = ap (λ (r : ReaderConfig). is_reliable_reader r) same ∙ reliable }
-    by false name end is same reliable = is
+    by : (b : Bool) → is_reliable_reader is.name_is.is.end ≡ b → IsNamedSo peers topic known.name b
+    by true reliable = record { name_is = is.name_is; reliable = reliable }
+    by false reliable = is.name_is
 
 -- is a matched reader
 pub matched_opened : (peers : List PeerConfig) (topic k : ℕ) (name : ReaderName)

@@ -18,7 +18,7 @@ use Rattle.rtps_reader.specs.Attached.{StandsNow}
 use Rattle.rtps_reader.specs.Reader.{Proxies, how_at}
 use Rattle.rtps_reader.specs.Tracked.{Tracked}
 use Rattle.dds_base.specs.declared.endpoint.Endpoint.{Endpoint}
-use Rattle.dds_machine.specs.Matching.{attached_count, happened_after, is_known, match_ended, match_made, reader_joined, reader_left, with_how}
+use Rattle.dds_machine.specs.Matching.{attached_count, happened_after, is_known, match_ended, match_made, max_known, reader_joined, reader_left, with_how}
 use Rattle.dds_machine.specs.Part.{Attachment, Away, Waiting, Matches, Reader, WriterProxy, how_of, is_attached, publication_among, row_of}
 use Rattle.dds_machine.specs.Passing.{passed_at}
 use Rattle.dds_machine.proofs.Tables.{place-how, row-cases, row-hits}
@@ -152,6 +152,7 @@ told_how kept row a reader store matches here now qos writer proxies r after tra
           writers_kept (λ (p : WriterProxy). record p { how = stood_as a }) (λ p. refl) proxies writer ∙ s.writers_are;
       places = λ w p at. s.places w p (sym (place-how proxies writer (stood_as a) w) ∙ at);
       knows = λ w k f. now.known k (tracked w) (s.knows w k f);
+      others = s.others;
       qos_is = same_qos ∙ (s.qos_is ∙ sym qos);
       holds = holds;
       seen_is = same_seen ∙ s.seen_is;
@@ -188,7 +189,7 @@ abbrev pub IsMatchedSo : ReaderKept → ℕ → Bool → Type 0
 IsMatchedSo kept row met = (writer : Endpoint) (proxies : List WriterProxy) (r : Reader) (tracked : Endpoint → Tracked)
     → IsFirstRow kept.writers writer row → ReaderStands kept proxies r tracked → met ≡ is_attached (how_of proxies writer)
 
-count_joined : (met : Bool) (here old new : ℕ) → here ≡ old → new + one_if met ≡ old + 1 → old ≤ 256
+count_joined : (met : Bool) (here old new : ℕ) → here ≡ old → new + one_if met ≡ old + 1 → new ≤ max_known
     → joined_here met here ≡ new
 count_joined true here old new is h few = omega (arith, is, h)
 count_joined false here old new is h few = omega (arith, is, h, few)
@@ -205,7 +206,7 @@ name_there names row writer n first at =
 
 -- it is matched with the writer
 pub attaches : (kept : ReaderKept) (row : ℕ) (reader : Proxies) (name : WriterName) (met : Bool) (matches : MatchCounts)
-    → StandsNow kept.reader row standing.Waiting reader → length kept.writers ≤ 256
+    → StandsNow kept.reader row standing.Waiting reader → length kept.writers ≤ max_known
     → slice_get kept.writers row ≡ Some name → IsMatchedSo kept row met
     → ((m : Matches) → CountsFor kept.matches m → CountsFor matches (match_made m name.writer))
     → Attaches kept row (record kept { reader = reader; matches = matches; here = joined_here met kept.here })
@@ -215,7 +216,10 @@ attaches kept row reader name met matches now few at is made = record {
       let known : is_known proxies writer ≡ true =
       known_there proxies writer row (first_among kept proxies r tracked writer row s first) in
       let begins = first_among kept proxies r tracked writer row s first in
-      let old : attached_count proxies ≤ length kept.writers = count_few proxies kept.writers s.writers_are in
+      let rows = with_how proxies writer Waiting in
+      let now_few : attached_count rows ≤ length kept.writers =
+      count_few rows kept.writers
+      (writers_kept (λ (p : WriterProxy). record p { how = Waiting }) (λ p. refl) proxies writer ∙ s.writers_are) in
       let counted : attached_count (with_how proxies writer Waiting) + one_if (is_attached (how_of proxies writer))
       ≡ attached_count proxies + 1 =
       count_set (λ (p : WriterProxy). record p { how = Waiting }) true (λ p. refl) proxies writer row begins in
@@ -230,7 +234,7 @@ attaches kept row reader name met matches now few at is made = record {
       (name_there kept.writers row writer name first at) (made r.matches s.counts))
       (count_joined met kept.here (attached_count proxies) (attached_count (with_how proxies writer Waiting)) s.here_is
       (ap (λ (b : Bool). attached_count (with_how proxies writer Waiting) + one_if b)
-      (is writer proxies r tracked first s) ∙ counted) (omega (arith, old, few))));
+      (is writer proxies r tracked first s) ∙ counted) (omega (arith, now_few, few))));
 }
 
 -- what happened there once the writer of the row left

@@ -157,6 +157,7 @@ opens_reader peers r names writers reader store matched told nothing begun qos s
         writers_are = same;
         places = λ w k h. place_is_one (matched_writers r.topic 1 peers) w k (are_ones r.topic 1 peers) h;
         knows = λ w k f. nothing k (get-within names k f.name f.at);
+        others = λ w none. refl;
         qos_is = sym (qos ∙ ap (λ (ws : List MatchedWriter). qos_with r ws) told);
         holds = stands;
         seen_is = refl;
@@ -210,6 +211,6 @@ rows_fit peers r names writers reader store matched told count qos counted many 
     record {
       policy = ap (λ (q : ReaderQos). is_reliable q.reliability) qos ∙ sym is;
       count = count;
-      fits = omega (arith, same, a, b, counted);
-      many = omega (arith, counted, many);
+      fits = counted ∙ omega (arith, same, a, b);
+      many = omega (arith, same, a, b, many);
     }

@@ -29,7 +29,7 @@ for_memory : (refusal : Option Code) (code : Code) → refusal ≡ None → code
 for_memory refusal code is memory = subst (λ (o : Option Code). Refuses o code) (sym is) memory
 
 -- a writer of the machine knows a reader where it is known
-knows_as : (kept : WriterKept) (reader : Endpoint) (found : Option TopicName) (w : Writer)
+pub knows_as : (kept : WriterKept) (reader : Endpoint) (found : Option TopicName) (w : Writer)
     (answered : Endpoint → Contact) → WriterStands kept w answered → known_as kept.known reader ≡ found
     → knows_reader w reader ≡ is_some found
 knows_as kept reader found w answered s is =
@@ -37,7 +37,7 @@ knows_as kept reader found w answered s is =
     ∙ (row_known kept.known reader found is).0
 
 -- and is matched with one that is named
-matched_as : (kept : WriterKept) (reader : Endpoint) (w : Writer) (answered : Endpoint → Contact)
+pub matched_as : (kept : WriterKept) (reader : Endpoint) (w : Writer) (answered : Endpoint → Contact)
     → WriterStands kept w answered → is_matched w reader ≡ is_named kept.matched reader
 matched_as kept reader w answered s =
     ap (λ (es : List Endpoint). list_any (λ e. same_endpoint e reader) es) s.matched ∙ named_alike kept.matched reader
@@ -72,9 +72,10 @@ pub leaving_unknown : (kept now : WriterKept) (reader : Endpoint) → kept ≡ n
 leaving_unknown kept now reader same known = leaving_by kept now reader None (is_named kept.matched reader) same known refl
 
 -- where there is no cause, a growth was refused
-pub memory_refused : {A : Type 0} (result : Result A Code) (kept : WriterKept) (reader : Endpoint)
-    → RefusesSo joining_refusal kept reader (Is None) → IfErr result (λ code. code ≡ Memory)
-    → IfErr result (λ code. RefusesSo joining_refusal kept reader (λ refusal. Refuses refusal code))
-memory_refused (Ok x) kept reader none memory = tt
-memory_refused (Err code) kept reader none memory = λ w answered s.
-    for_memory (joining_refusal w reader) code (none w answered s) memory
+pub memory_refused : {A : Type 0} (refusal_of : Writer → Endpoint → Option Code) (result : Result A Code)
+    (kept : WriterKept) (reader : Endpoint)
+    → RefusesSo refusal_of kept reader (Is None) → IfErr result (λ code. code ≡ Memory)
+    → IfErr result (λ code. RefusesSo refusal_of kept reader (λ refusal. Refuses refusal code))
+memory_refused refusal_of (Ok x) kept reader none memory = tt
+memory_refused refusal_of (Err code) kept reader none memory = λ w answered s.
+    for_memory (refusal_of w reader) code (none w answered s) memory

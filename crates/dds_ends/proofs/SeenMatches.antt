@@ -23,6 +23,7 @@ sees_kept kept matches seen = record {
     writers_are = s.writers_are;
     places = s.places;
     knows = s.knows;
+    others = s.others;
     qos_is = s.qos_is;
     holds = s.holds;
     seen_is = s.seen_is;

@@ -32,6 +32,7 @@ sees_so k k' status seen is so proxies r tracked s =
       writers_are = s.writers_are;
       places = s.places;
       knows = s.knows;
+      others = s.others;
       qos_is = s.qos_is;
       holds = s.holds;
       seen_is = sym (so r s.holds s.qos_is s.seen_is);

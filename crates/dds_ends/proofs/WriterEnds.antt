@@ -22,7 +22,8 @@ use Rattle.dds_machine.specs.Matching.{seen_matches}
 use Rattle.dds_machine.specs.Part.{Matches, Writer, ReaderProxy, opened_with, peers_of, same_endpoint, writer_changes, history_of as writer_history, is_behind as is_writer_behind}
 use Rattle.dds_machine.specs.Ticks.{ticked as writer_ticked}
 use Rattle.dds_protocol.specs.Contact.{Contact}
-use Rattle.dds_base.specs.Checked.{limit_of}
+use Rattle.dds_base.specs.Checked.{check_refusal, limit_of}
+use Rattle.dds_protocol.specs.Dues.{AreFew}
 use Rattle.dds_ends.specs.declared.matching.Destination.{Destination}
 use Rattle.dds_ends.specs.declared.matching.LastCount.{LastCount}
 use Rattle.dds_ends.specs.declared.matching.ReaderName.{ReaderName}
@@ -39,6 +40,7 @@ use Rattle.dds_ends.specs.OpeningEnds.{OpensWriter}
 use Rattle.dds_ends.specs.Standing.{AreShort, CountsFrom1, IsShort, IsWhole, WriterStands, state_of}
 use Rattle.dds_ends.specs.Stepping.{Enters, Ticks, some_await}
 use Rattle.dds_ends.proofs.Acknowledging.{state_as}
+use Rattle.dds_ends.proofs.FewAt.{few_opened}
 use Rattle.dds_ends.proofs.FirstPeers.{any-map}
 use Rattle.dds_ends.proofs.Lists.{any_either}
 use Rattle.dds_ends.proofs.MatchedAt.{ends_opened, matched_opened, named_at, named_is, once_named}
@@ -207,14 +209,16 @@ nothing_short most number change at = by (nat_lt 0 number) (slice_get [] (number
 
 pub whole_opened : (peers : List PeerConfig) (w : WriterConfig) (known : List TopicName) (es : List ReaderName)
     (ds : List Destination) (names : List ReaderName) (limit : Option ℕ) (strength : Option ℤ) (kept : Kept) (count : ℕ)
-    → known ≡ topic_names w.topic peers → length known ≤ 256 → es ≡ names_of known
+    → check_refusal peers ≡ None → known ≡ topic_names w.topic peers → length known ≤ 256 → es ≡ names_of known
     → ds ≡ destinations w.topic 1 peers → length ds ≤ 16 → names ≡ reader_names w.topic peers → length names ≤ 256
     → reader_count kept ≡ count → count ≡ length names
     → RtpsStandsFor kept (opening w.history limit w.lease strength count)
     → IsWhole w.max_value known es ds names kept
-whole_opened peers w known es ds names limit strength kept count knows limited named sent few matched many rows counted
-    stands = record {
-      limited = limited;
+whole_opened peers w known es ds names limit strength kept count fits knows limited named sent few matched many rows
+    counted stands = record {
+      limited = omega (arith, limited);
+      few_at =
+          subst (λ (ns : List ReaderName). AreFew (readers_of ns)) (sym ends ∙ named) (few_opened w.topic peers fits);
       matched_are = record {
         once =
             subst (λ (ns : List ReaderName). AreNamedOnce ns) (sym ends)
@@ -231,7 +235,7 @@ whole_opened peers w known es ds names limit strength kept count knows limited n
           ap (λ (ns : List ReaderName). peers_of (readers_of ns)) ends
           ∙ ((ends_opened peers w.topic).sent_to ∙ sym (ap (λ (xs : List Destination). map (λ (d : Destination). d.peer) xs) sent));
       few = omega (arith, few);
-      many = many;
+      many = omega (arith, many);
       count = rows ∙ counted;
       state = opening w.history limit w.lease strength count;
       stands = stands;
@@ -415,6 +419,7 @@ pub whole_if : (result : Result ℕ Code) (most : ℕ) (known : List TopicName) 
     → OnErr result (after ≡ old) → IsWhole most known matched destinations readers after
 whole_if (Ok n) most known matched destinations readers old after change whole short counted more same = record {
   limited = whole.limited;
+  few_at = whole.few_at;
   matched_are = whole.matched_are;
   once = whole.once;
   among = whole.among;

@@ -2,7 +2,7 @@
 -- cite this: nothing here has to be believed.
 --
 -- RTPS 2.5, 8.4.9 (reliable StatefulWriter: heartbeatPeriod), 8.3.8 (Heartbeat).
-use Rattle.std.specs.Prelude.{◌≡◌, ℕ, ◌+◌, ◌-◌, ◌≤◌, ◌==◌, ◌&&◌, Bool, not, if◌then◌else◌, nat_lt, nat_le, true, false, List, [], ◌∷◌, ◌++◌, length, map, filter, take, slice_get, pos}
+use Rattle.std.specs.Prelude.{◌≡◌, ℕ, ◌+◌, ◌-◌, ◌≤◌, ◌==◌, ◌&&◌, Bool, not, if◌then◌else◌, nat_lt, nat_le, count_by, true, false, List, [], ◌∷◌, ◌++◌, length, map, filter, take, slice_get, pos}
 use Rattle.std.specs.List.{list_any, AllByRecursion}
 use Rattle.std.specs.Option.{option_map_or}
 use Rattle.dds_base.specs.declared.guid.GuidPrefix.{GuidPrefix}
@@ -69,6 +69,10 @@ ends_for answered w reader =
 -- by name to a reader
 abbrev pub beat_for : Beat → Writer → (Endpoint → Contact) → ReaderName → Submessage
 beat_for beat w answered n = beat_from beat n.guid.entity (begins_at w n.reader) (ends_for answered w n.reader)
+
+-- how many of these readers are at a peer
+abbrev pub names_at : List ReaderName → ℕ → ℕ
+names_at names to = count_by (λ (n : ReaderName). n.reader.peer == to) names
 
 -- by name to those of these readers that are at a peer
 abbrev pub beats_for : Beat → Writer → (Endpoint → Contact) → List ReaderName → ℕ → List Submessage

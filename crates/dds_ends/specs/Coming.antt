@@ -14,10 +14,9 @@ use Rattle.dds_protocol.specs.Contact.{Contact}
 use Rattle.dds_ends.specs.declared.matching.Destination.{Destination}
 use Rattle.dds_ends.specs.declared.matching.LastCount.{LastCount}
 use Rattle.dds_ends.specs.declared.matching.ReaderName.{ReaderName}
-use Rattle.dds_ends.specs.EndNames.{topic_names}
 use Rattle.dds_ends.specs.Identity.{writer_identity}
 use Rattle.dds_ends.specs.Kept.{WriterKept}
-use Rattle.dds_ends.specs.MatchedEnds.{AreMatchedNow, has_count, is_named}
+use Rattle.dds_ends.specs.MatchedEnds.{AreKnownReaders, AreMatchedNow, has_count, is_named}
 use Rattle.dds_ends.specs.Standing.{WriterStands}
 
 -- the names without this reader's
@@ -111,7 +110,7 @@ pub record Joins (old : WriterKept) (reader : Endpoint) (greeted : Bool) (new : 
   pub stands : (w : Writer) (answered : Endpoint → Contact) → WriterStands old w answered
       → WriterStands new (joined w reader (knows_reliable w reader))
       (matched_anew answered reader (greeted && knows_reliable w reader))
-  pub ends : (peers : List PeerConfig) (topic : ℕ) → old.known ≡ topic_names topic peers
+  pub ends : (peers : List PeerConfig) (topic : ℕ) → AreKnownReaders peers topic old.known
       → AreMatchedNow peers topic old.matched old.destinations old.readers
       → AreMatchedNow peers topic new.matched new.destinations new.readers
 

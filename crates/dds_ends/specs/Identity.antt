@@ -7,11 +7,11 @@ use Rattle.dds_base.specs.declared.config.PeerConfig.{PeerConfig}
 use Rattle.dds_base.specs.declared.config.WriterConfig.{WriterConfig}
 use Rattle.dds_base.specs.declared.config.ReaderConfig.{ReaderConfig}
 use Rattle.dds_base.specs.declared.guid.EntityId.{EntityId}
-use Rattle.dds_base.specs.Bounds.{max_readers}
 use Rattle.dds_base.specs.Matched.{is_reliable, is_reliable_reader}
 use Rattle.dds_cache.specs.Standing.{qos_of}
 use Rattle.dds_lease.specs.Standing.{writer_count}
 use Rattle.rtps_reader.specs.Reader.{Proxies, count_of}
+use Rattle.dds_machine.specs.Matching.{max_known}
 use Rattle.dds_ends.specs.Stored.{StoreKept}
 use Rattle.dds_ends.specs.declared.matching.Destination.{Destination}
 use Rattle.dds_ends.specs.declared.matching.LastCount.{LastCount}
@@ -19,7 +19,7 @@ use Rattle.dds_ends.specs.declared.matching.ReaderName.{ReaderName}
 use Rattle.dds_ends.specs.declared.matching.TopicName.{TopicName}
 use Rattle.dds_ends.specs.declared.matching.WriterName.{WriterName}
 use Rattle.dds_ends.specs.Matching.{destinations}
-use Rattle.dds_ends.specs.MatchedEnds.{AreMatchedNow, first_count}
+use Rattle.dds_ends.specs.MatchedEnds.{AreKnownReaders, AreKnownWriters, AreMatchedNow, first_count}
 use Rattle.dds_ends.specs.EndNames.{all_names, reader_names, topic_names, writer_names}
 use Rattle.dds_ends.specs.Kept.{WriterKept, ReaderKept}
 
@@ -27,17 +27,17 @@ use Rattle.dds_ends.specs.Kept.{WriterKept, ReaderKept}
 abbrev pub reliable_in : StoreKept → Bool
 reliable_in store = is_reliable (qos_of store.cache).reliability
 
--- each matched writer is known, and is among those that the store counts, of which there are 256 at most; by the policies
--- the reader is a reliable one or not
+-- each writer that it knows is one that the store counts, in the same order, of which there are no more than can be; by the
+-- policies the reader is a reliable one or not
 pub record FitsWriters (names : List WriterName) (reader : Proxies) (store : StoreKept) (reliable : Bool) : Type 0 where
   pub policy : reliable_in store ≡ reliable
   pub count : count_of reader ≡ length names
-  pub fits : length names ≤ writer_count store.leases
-  pub many : writer_count store.leases ≤ max_readers
+  pub fits : writer_count store.leases ≡ length names
+  pub many : length names ≤ max_known
 
--- what stays of a writer while nobody comes or goes: its name, whether an unregister disposes too, how long its values
--- may be, and the readers of its topic, which never change; and whom it is matched with, to which peers it sends, the
--- names of its reliable readers, and the last counts of those that were matched before
+-- what stays of a writer while nobody comes or goes: its name, whether an unregister disposes too and how long its values
+-- may be, which never change; the readers of its topic that it knows; and whom it is matched with, to which peers it
+-- sends, the names of its reliable readers, and the last counts of those that were matched before
 pub record WriterIdentity : Type 0 where
   pub entity : EntityId
   pub autodispose : Bool
@@ -48,7 +48,7 @@ pub record WriterIdentity : Type 0 where
   pub readers : List ReaderName
   pub counts : List LastCount
 
--- what never changes of a reader: its name, those of its matched writers, and whether it is a reliable one
+-- what stays of a reader while nobody comes: its name, those of the writers that it knows, and whether it is a reliable one
 pub record ReaderIdentity : Type 0 where
   pub entity : EntityId
   pub writers : List WriterName
@@ -67,7 +67,7 @@ writer_identity w = record {
   counts = w.counts;
 }
 
--- what never changes of this reader
+-- what stays of this reader
 abbrev pub reader_identity : ReaderKept → ReaderIdentity
 reader_identity r =
     record { entity = r.entity; writers = r.writers; reliable = reliable_in r.store }
@@ -91,10 +91,16 @@ pub record IsWriterOf (peers : List PeerConfig) (w : WriterConfig) (is : WriterI
   pub entity : is.entity ≡ w.entity
   pub autodispose : is.autodispose ≡ w.autodispose
   pub max_value : is.max_value ≡ w.max_value
-  pub known : is.known ≡ topic_names w.topic peers
+  pub known : AreKnownReaders peers w.topic is.known
   pub ends : AreMatchedNow peers w.topic is.matched is.destinations is.readers
 
--- what never changes of a reader, as the configuration says it
+-- a reader of the configuration, with the writers that it knows
+pub record IsConfiguredReader (peers : List PeerConfig) (r : ReaderConfig) (is : ReaderIdentity) : Type 0 where
+  pub entity : is.entity ≡ r.entity
+  pub reliable : is.reliable ≡ is_reliable_reader r
+  pub writers : AreKnownWriters peers r.topic is.writers
+
+-- a reader at its opening, as the configuration says it
 abbrev pub configured_reader : List PeerConfig → ReaderConfig → ReaderIdentity
 configured_reader peers r =
     record { entity = r.entity; writers = writer_names r.topic peers; reliable = is_reliable_reader r }

@@ -6,6 +6,7 @@ pub mod MatchedEnds
 pub mod Identity
 pub mod Standing
 pub mod Coming
+pub mod Meeting
 pub mod Stepping
 pub mod OpeningEnds
 pub mod Sending
@@ -19,6 +20,7 @@ pub mod Beating
 pub mod Answering
 pub mod Expiring
 pub mod Parting
+pub mod Knowing
 pub mod Noticing
 pub mod Twins
 pub mod Observing

@@ -7,6 +7,9 @@ use Rattle.std.specs.Prelude.{◌≡◌, ℕ, Bool, true, false, if◌then◌els
 use Rattle.std.specs.List.{list_any}
 use Rattle.dds_base.specs.declared.config.PeerConfig.{PeerConfig}
 use Rattle.dds_base.specs.declared.config.ReaderConfig.{ReaderConfig}
+use Rattle.dds_base.specs.declared.config.WriterConfig.{WriterConfig}
+use Rattle.dds_base.specs.declared.guid.EntityId.{EntityId}
+use Rattle.dds_base.specs.declared.guid.Guid.{Guid}
 use Rattle.dds_base.specs.Matched.{is_reliable_reader}
 use Rattle.dds_base.specs.declared.endpoint.Endpoint.{Endpoint}
 use Rattle.dds_machine.specs.Part.{TopicReader, peers_of, same_endpoint}
@@ -15,6 +18,7 @@ use Rattle.dds_ends.specs.declared.matching.Destination.{Destination}
 use Rattle.dds_ends.specs.declared.matching.LastCount.{LastCount}
 use Rattle.dds_ends.specs.declared.matching.ReaderName.{ReaderName}
 use Rattle.dds_ends.specs.declared.matching.TopicName.{TopicName}
+use Rattle.dds_ends.specs.declared.matching.WriterName.{WriterName}
 
 -- a reader of the topic has this number
 pub record IsReaderOf (peers : List PeerConfig) (topic : ℕ) (reader : Endpoint) : Type 0 where
@@ -29,6 +33,37 @@ pub record IsNameOf (peers : List PeerConfig) (topic : ℕ) (name : ReaderName) 
   pub is : IsReaderOf peers topic name.reader
   pub same_prefix : is.peer.prefix ≡ name.guid.prefix
   pub same_entity : is.end.entity ≡ name.guid.entity
+
+-- what a writer knows of a reader: the name is that of a reader of the topic, and it is as reliable as it is known
+pub record IsKnownReader (peers : List PeerConfig) (topic : ℕ) (known : TopicName) : Type 0 where
+  pub name_is : IsNameOf peers topic known.name
+  pub as_reliable : is_reliable_reader name_is.is.end ≡ known.is_reliable
+
+-- so it is of each reader that it knows
+abbrev pub AreKnownReaders : List PeerConfig → ℕ → List TopicName → Type 0
+AreKnownReaders peers topic known = (i : ℕ) (k : TopicName) → slice_get known i ≡ Some k
+    → IsKnownReader peers topic k
+
+-- an end of the topic has this number, and this GUID
+pub record IsEndNamed {E : Type 0} (ends : PeerConfig → List E) (topic_of : E → ℕ) (entity_of : E → EntityId)
+    (all : List PeerConfig) (topic : ℕ) (endpoint : Endpoint) (guid : Guid) : Type 0 where
+  pub peer : PeerConfig
+  pub at_peer : IsNumbered all endpoint.peer peer
+  pub same_prefix : peer.prefix ≡ guid.prefix
+  pub end : E
+  pub at_end : IsNumbered (ends peer) endpoint.number end
+  pub same_entity : entity_of end ≡ guid.entity
+  pub same_topic : topic_of end ≡ topic
+
+-- the name is that of a writer of the topic
+abbrev pub IsWriterNamed : List PeerConfig → ℕ → WriterName → Type 0
+IsWriterNamed peers topic name =
+    IsEndNamed (λ (p : PeerConfig). p.writers) (λ (w : WriterConfig). w.topic) (λ (w : WriterConfig). w.entity)
+    peers topic name.writer name.guid
+
+-- so it is of each writer that a reader has a row of
+abbrev pub AreKnownWriters : List PeerConfig → ℕ → List WriterName → Type 0
+AreKnownWriters peers topic rows = (i : ℕ) (n : WriterName) → slice_get rows i ≡ Some n → IsWriterNamed peers topic n
 
 -- the name is that of a reliable reader of the topic
 pub record IsReliableName (peers : List PeerConfig) (topic : ℕ) (name : ReaderName) : Type 0 where

@@ -19,7 +19,7 @@ parting_entries alive = if alive then 2 else 1
 -- With so many writers a reader is matched, as a word counts them, that was matched with so many: it is told of one,
 -- with which it was matched or not.
 abbrev pub joined_here : Bool → ℕ → ℕ
-joined_here was here = if was then here else min (here + 1) (2 ^ 16 - 1)
+joined_here was here = if was then here else min (here + 1) (2 ^ 32 - 1)
 
 -- the same, once that one has left
 abbrev pub left_here : Bool → ℕ → ℕ

@@ -5,20 +5,21 @@
 -- packets.
 use Rattle.std.specs.Prelude.{◌≡◌, ℕ, suc, ◌<◌, ◌≤◌, List, [], map, length, get_or, slice_get, Some, All, true, false}
 use Rattle.dds_base.specs.declared.change.Change.{Change}
-use Rattle.dds_base.specs.Bounds.{greatest_value, max_readers}
+use Rattle.dds_base.specs.Bounds.{greatest_value}
 use Rattle.dds_base.specs.Kept.{change_at}
 use Rattle.dds_base.specs.Written.{changes_of}
 use Rattle.dds_cache.specs.Standing.{qos_of}
 use Rattle.rtps_reader.specs.declared.attachment.Attachment.{Attachment as AttachmentOf}
 use Rattle.rtps_reader.specs.declared.attachment.Attachment.TheVariants as standing
-use Rattle.rtps_reader.specs.Tracked.{Tracked}
+use Rattle.rtps_reader.specs.Tracked.{Tracked, fresh}
 use Rattle.rtps_reader.specs.Reader.{Tracks, how_at}
 use Rattle.rtps_writer.specs.Standing.{Kept, reader_count, StandsFor as RtpsStandsFor}
 use Rattle.rtps_writer.specs.WriterState.{WriterState}
 use Rattle.dds_base.specs.declared.endpoint.Endpoint.{Endpoint}
-use Rattle.dds_machine.specs.Matching.{attached_count}
+use Rattle.dds_machine.specs.Matching.{attached_count, max_known}
 use Rattle.dds_machine.specs.Part.{Attachment, Away, Waiting, Begun, how_of, Writer, Reader, ReaderProxy, WriterProxy, no_writer, no_reader, peers_of, place_of}
 use Rattle.dds_protocol.specs.Contact.{Contact}
+use Rattle.dds_protocol.specs.Dues.{AreFew}
 use Rattle.dds_protocol.specs.Protocol.{Known}
 use Rattle.dds_ends.specs.declared.matching.Destination.{Destination}
 use Rattle.dds_ends.specs.declared.matching.ReaderName.{ReaderName}
@@ -27,7 +28,7 @@ use Rattle.dds_ends.specs.declared.matching.WriterName.{WriterName}
 use Rattle.dds_ends.specs.Storing.{Holds}
 use Rattle.dds_ends.specs.Kept.{WriterKept, ReaderKept}
 use Rattle.dds_ends.specs.MatchCounts.{CountsFor}
-use Rattle.dds_ends.specs.MatchedEnds.{AreAmong, AreNamedOnce, AreRows, is_named, last_count, readers_of, topic_reader}
+use Rattle.dds_ends.specs.MatchedEnds.{AreAmong, AreNamedOnce, AreRows, is_named, last_count, names_of, readers_of, topic_reader}
 
 -- the state of a writer of the machine, with what it knows of each matched reader by its ACKNACKs
 abbrev pub state_of : Writer → (Endpoint → Contact) → WriterState
@@ -78,18 +79,19 @@ abbrev pub AreShort : ℕ → List Change → Type 0
 AreShort most changes = (number : ℕ) (change : Change) → change_at changes number ≡ Some change
     → IsShort most change.value
 
--- what is so of each writer: it knows at most 256 readers, each that it is matched with is one of those, it sends to
--- their peers, its reliable readers are among them, each once, and are the ones of what it keeps, and that stands for
+-- what is so of each writer: it knows no more readers than can be, and no more of a peer than a peer has, each that it is
+-- matched with is one of those, it sends to their peers, its reliable readers are among them, each once, and are the ones of what it keeps, and that stands for
 -- some state, of changes as short as its values are to be
 pub record IsWhole (most : ℕ) (known : List TopicName) (matched : List ReaderName) (destinations : List Destination)
     (readers : List ReaderName) (writer : Kept) : Type 0 where
-  pub limited : length known ≤ max_readers
+  pub limited : length known ≤ max_known
+  pub few_at : AreFew (readers_of (names_of known))
   pub matched_are : AreAmong known matched
   pub once : AreNamedOnce readers
   pub among : (reader : Endpoint) → is_named readers reader ≡ true → is_named matched reader ≡ true
   pub told : peers_of (readers_of matched) ≡ map (λ (d : Destination). d.peer) destinations
-  pub few : length destinations ≤ max_readers
-  pub many : length readers ≤ max_readers
+  pub few : length destinations ≤ max_known
+  pub many : length readers ≤ max_known
   pub count : reader_count writer ≡ length readers
   pub state : WriterState
   pub stands : RtpsStandsFor writer state
@@ -116,13 +118,18 @@ stood_as standing.Away = Away
 stood_as standing.Waiting = Waiting
 stood_as standing.Begun = Begun
 
+-- the writer is none of these rows
+abbrev pub HasNoRow : List WriterName → Endpoint → Type 0
+HasNoRow names writer = (j : ℕ) (n : WriterName) → slice_get names j ≡ Some n → n.writer ≡ writer → ⊥
+
 -- a reader of the machine, with the writers that it knows, how it stands to them, and what is known of them, for which
--- what is kept stands
+-- what is kept stands; of a writer without a row nothing is known
 pub record ReaderStands (kept : ReaderKept) (proxies : List WriterProxy) (r : Reader)
     (tracked : Endpoint → Tracked) : Type 0 where
   pub writers_are : map (λ (p : WriterProxy). p.writer) proxies ≡ map (λ (n : WriterName). n.writer) kept.writers
   pub places : (w : Endpoint) (p : ℕ) → place_of proxies w ≡ Some p → (tracked w).place ≡ p
   pub knows : (w : Endpoint) (k : ℕ) → IsFirstRow kept.writers w k → Tracks kept.reader k (tracked w)
+  pub others : (w : Endpoint) → HasNoRow kept.writers w → tracked w ≡ fresh
   pub qos_is : r.qos ≡ qos_of kept.store.cache
   pub holds : Holds kept.store r.happened
   pub seen_is : r.seen ≡ kept.seen

@@ -8,11 +8,15 @@ ghost use Rattle.rtps_writer.specs.Standing.{StandsFor, reader_count};
 ghost use Rattle.rtps_writer.specs.WriterState.{WriterState, joined};
 ghost use Rattle.dds_ends.specs.Coming.{is_first_of, set_count, with_peer, with_place, without};
 ghost use Rattle.dds_ends.specs.Beating.{first_peers};
+ghost use Rattle.dds_ends.specs.Meeting.{is_full, with_known};
 ghost use Rattle.dds_ends.specs.MatchedEnds.{has_count, last_count};
 
-use crate::matching::{Destination, LastCount, ReaderName};
-use dds_base::{Code, Endpoint};
+use crate::matching::{Destination, LastCount, ReaderName, TopicName};
+use dds_base::{Code, Endpoint, MAX_ENDS};
 use rtps_writer::StatefulWriter;
+
+/// How many readers a writer knows at most: as many as a status counts.
+const MAX_KNOWN: usize = i32::MAX as usize;
 
 /// Takes the names of this reader out.
 pub fn remove_name(names: &mut Vec<ReaderName>, reader: Endpoint)
@@ -55,6 +59,26 @@ pub fn add_peer(peers: &mut Vec<Destination>, peer: Destination)
         return;
     }
     peers.push_reserved(peer);
+}
+
+/// Whether a writer that knows these readers knows as many of this peer as a peer has at most, or as many as can be.
+pub fn is_full(known: &[TopicName], peer: u32) -> bool
+    ensures { result ≡ is_full known.now peer }
+{
+    let here = known.iter().filter(|k| k.name.reader.peer == peer).count();
+    MAX_ENDS <= here || MAX_KNOWN <= known.len()
+}
+
+/// Adds this reader to those that a writer knows, unless it is there. There is room for one more.
+pub fn add_known(known: &mut Vec<TopicName>, reader: TopicName)
+    requires { vec_len known.old < vec_capacity known.old }
+    ensures { known.new.items ≡ with_known known.old.items reader.name reader.is_reliable }
+{
+    let name = reader.name.reader;
+    if known.as_slice().iter().any(|k| k.name.reader == name) {
+        return;
+    }
+    known.push_reserved(reader);
 }
 
 /// The count that is kept of this reader, if there is one.

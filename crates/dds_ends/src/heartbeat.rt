@@ -5,17 +5,20 @@
 //!
 //! RTPS 2.5, 8.4.9 (reliable StatefulWriter: heartbeatPeriod), 8.3.8 (Heartbeat), 8.7.2.2 (LIVELINESS).
 
-ghost use Rattle.std.specs.Prelude.{◌≡◌, ◌+◌, ◌++◌, ◌<◌, ◌≤◌, ◌∷◌, [], IfOk, OnOk, length, take};
-ghost use Rattle.dds_base.specs.Bounds.{max_readers};
+ghost use Rattle.std.specs.Prelude.{◌≡◌, ◌+◌, ◌*◌, ◌++◌, ◌<◌, ◌≤◌, ◌∷◌, [], IfOk, OnOk, length, take};
+ghost use Rattle.dds_base.specs.Bounds.{max_ends};
 ghost use Rattle.rtps_wire.specs.Messages.{IsWritable};
 ghost use Rattle.rtps_wire.specs.Submessages.{IsSpellable, value_octets};
 ghost use Rattle.rtps_writer.specs.Standing.{reader_count, StandsFor as RtpsStandsFor};
 ghost use Rattle.dds_base.specs.declared.endpoint.Endpoint.{Endpoint as EndpointOf};
+ghost use Rattle.dds_machine.specs.Matching.{max_known};
 ghost use Rattle.dds_machine.specs.Part.{Writer};
 ghost use Rattle.dds_protocol.specs.Claims.{every_reader};
 ghost use Rattle.dds_protocol.specs.DueMessages.{is_one_for_all, is_told};
+ghost use Rattle.dds_protocol.specs.Dues.{AreFew};
 ghost use Rattle.dds_protocol.specs.Contact.{Contact};
-ghost use Rattle.dds_ends.specs.Beating.{AddsBare, AreReadersOf, Beats, CanSpan, ForEach, IsDueOf, Tells, beat_for, beat_from, beats_at, beats_for, is_first_told, is_peer_told, message_to, names_told};
+ghost use Rattle.dds_ends.specs.Beating.{AddsBare, AreReadersOf, Beats, CanSpan, ForEach, IsDueOf, Tells, beat_for, beat_from, beats_at, beats_for, is_first_told, is_peer_told, message_to, names_at, names_told};
+ghost use Rattle.dds_ends.specs.MatchedEnds.{readers_of};
 ghost use Rattle.dds_ends.specs.Sending.{AreMessages};
 ghost use Rattle.dds_ends.specs.Standing.{state_of};
 
@@ -125,7 +128,8 @@ fn push_told(
 ) -> Result<(), AllocError>
     requires due { IsDueOf writer.now beat.now.due }
     requires count { reader_count writer.now ≡ length readers.now }
-    ensures bare { OnOk result (AddsBare (length readers.now) submessages.old submessages.new) }
+    ensures bare { OnOk result
+        (AddsBare (names_at readers.now peer) submessages.old submessages.new) }
     ensures adds { OnOk result (ForEach beat.now.due.first writer.now readers.now
         (λ w answered. submessages.new
         ≡ submessages.old
@@ -151,7 +155,8 @@ fn push_matched(
 ) -> Result<(), AllocError>
     requires due { IsDueOf writer.now beat.now.due }
     requires count { reader_count writer.now ≡ length readers.now }
-    ensures bare { OnOk result (AddsBare (length matched.now) submessages.old submessages.new) }
+    ensures bare { OnOk result
+        (AddsBare (names_at matched.now peer) submessages.old submessages.new) }
     ensures adds { OnOk result (ForEach beat.now.due.first writer.now readers.now
         (λ w answered. submessages.new ≡ submessages.old ++ beats_for beat.now w answered matched.now peer)) }
 {
@@ -189,7 +194,7 @@ fn message_to_told(
 ) -> Result<Message<'static>, AllocError>
     requires due { IsDueOf writer.now beat.now.due }
     requires count { reader_count writer.now ≡ length readers.now }
-    requires few { length readers.now ≤ max_readers }
+    requires few { AreFew (readers_of readers.now) }
     ensures says { ForEach beat.now.due.first writer.now readers.now (λ w answered. IfOk result
         (λ m. m
         ≡ message_to beat.now to.now.prefix
@@ -222,7 +227,7 @@ fn message_to_matched(
 ) -> Result<Message<'static>, AllocError>
     requires due { IsDueOf writer.now beat.now.due }
     requires count { reader_count writer.now ≡ length readers.now }
-    requires few { length matched.now ≤ max_readers }
+    requires few { AreFew (readers_of matched.now) }
     ensures says { ForEach beat.now.due.first writer.now readers.now (λ w answered. IfOk result
         (λ m. m
         ≡ message_to beat.now to.now.prefix (beats_at beat.now w answered matched.now to.now.peer))) }
@@ -287,9 +292,10 @@ pub fn send_beats(
 )
     requires due { IsDueOf writer.now beat.now.due }
     requires count { reader_count writer.now ≡ length readers.now }
-    requires few { length readers.now ≤ max_readers }
-    requires room { sent.old.unsent ≤ 4096 }
-    ensures few { sent.new.unsent ≤ sent.old.unsent + max_readers }
+    requires few { AreFew (readers_of readers.now) }
+    requires many { length readers.now ≤ max_known }
+    requires room { sent.old.unsent ≤ max_ends * max_known }
+    ensures few { sent.new.unsent ≤ sent.old.unsent + max_known }
     ensures beats { Beats beat.now writer.now readers.now sent.old.packets.items sent.old.unsent
         sent.new.packets.items sent.new.unsent }
     ensures messages { AreMessages sent.old.packets.items → AreMessages sent.new.packets.items }
@@ -314,11 +320,11 @@ pub fn send_to_all(
 ) -> Announced
     requires due { IsDueOf writer.now beat.now.due }
     requires count { reader_count writer.now ≡ length readers.now }
-    requires few { length destinations.now ≤ max_readers }
-    requires many { length matched.now ≤ max_readers }
+    requires few { AreFew (readers_of matched.now) }
+    requires many { length destinations.now ≤ max_known }
     ensures sent { Tells beat.now writer.now readers.now matched.now destinations.now
         result.packets.items result.unsent }
-    ensures few { result.unsent ≤ max_readers }
+    ensures few { result.unsent ≤ max_known }
     ensures messages { AreMessages result.packets.items }
 {
     let mut sent = Announced {

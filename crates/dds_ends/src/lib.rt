@@ -29,6 +29,7 @@ mod status_bits;
 mod store;
 mod twin;
 mod writer_end;
+mod writer_matching;
 
 pub use acknack::send_acknack;
 pub use answering::{Room, is_from};

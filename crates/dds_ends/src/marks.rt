@@ -15,7 +15,7 @@ use dds_base::MAX_ENDS;
 #[derive(Clone, Copy)]
 pub struct ReaderMark {
     pub happened: u64,
-    pub here: u16,
+    pub here: u32,
 }
 
 impl ReaderMark {

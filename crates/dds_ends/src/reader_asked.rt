@@ -19,7 +19,7 @@ ghost use Rattle.dds_machine.specs.Noticing.{data_raised, lost_raised, subscript
 
 use crate::marks::ReaderMark;
 use crate::reader_end::ReaderEnd;
-use crate::seen::is_after;
+use crate::seen::{WriterCount, is_after};
 use crate::status_bits::bit_if;
 use crate::twin::Twin;
 use bitflags::Flags;
@@ -146,8 +146,8 @@ impl ReaderEnd {
         LivelinessChangedStatus {
             alive_count: alive,
             not_alive_count: not_alive,
-            alive_count_change: alive - i32::from(self.seen.alive),
-            not_alive_count_change: not_alive - i32::from(self.seen.not_alive),
+            alive_count_change: alive - self.seen.alive.get(),
+            not_alive_count_change: not_alive - self.seen.not_alive.get(),
             last_publication_handle: leases.last_turned(),
         }
     }
@@ -161,8 +161,8 @@ impl ReaderEnd {
     {
         let status = self.liveliness_changed();
         let leases = self.store.leases();
-        self.seen.alive = leases.alive_count() as u16;
-        self.seen.not_alive = leases.not_alive_count() as u16;
+        self.seen.alive = WriterCount::new(leases.alive_count());
+        self.seen.not_alive = WriterCount::new(leases.not_alive_count());
         self.seen.entries_at_turn = self.store.happened();
         status
     }
@@ -173,7 +173,7 @@ impl ReaderEnd {
     fn subscription_matched(&self) -> MatchedStatus
         ensures { TellsMatches self.now result }
     {
-        self.matches.status(usize::from(self.here))
+        self.matches.status(self.here as usize)
     }
 
     /// Looks at how many matches with writers there were and are, and since the last look.
@@ -184,7 +184,7 @@ impl ReaderEnd {
         ensures seen { SeesMatches self.old self.new }
     {
         let status = self.subscription_matched();
-        self.matches.see(usize::from(self.here));
+        self.matches.see(self.here as usize);
         status
     }
 
@@ -296,7 +296,7 @@ impl ReaderEnd {
         let lost = is_after(self.seen.entries_at_lost, self.store.passed());
         let came = is_after(self.seen.entries_at_data, self.store.data_at());
         let turned = is_after(self.seen.entries_at_turn, self.store.turned());
-        let matched = self.matches.is_flagged(usize::from(self.here));
+        let matched = self.matches.is_flagged(self.here as usize);
         StatusMask::from_bits_retain(
             bit_if(lost, StatusMask::SAMPLE_LOST)
                 + (bit_if(came, StatusMask::DATA_AVAILABLE)

@@ -6,6 +6,7 @@ ghost use Rattle.std.specs.Prelude.{◌≡◌, ◌↔◌, ◌<◌, ◌≤◌, �
 ghost use Rattle.dds_base.specs.Checked.{check_refusal};
 ghost use Rattle.rtps_wire.specs.declared.submessage.Submessage.TheVariants as submessage;
 ghost use Rattle.rtps_reader.specs.Tracked.{Tracked};
+ghost use Rattle.dds_machine.specs.Matching.{max_known};
 ghost use Rattle.dds_ends.specs.Identity.{reliable_in};
 ghost use Rattle.dds_ends.specs.OpeningEnds.{OpensReader};
 ghost use Rattle.dds_ends.specs.Readiness.{receiver_at, IsFirstName, IsNamedFor, IsPlaceAt};
@@ -34,8 +35,8 @@ pub struct ReaderEnd {
     pub(crate) store: Store,
     pub(crate) seen: Seen,
     pub(crate) matches: MatchCounts,
-    /// How many writers it is matched with: at most 256.
-    pub(crate) here: u16,
+    /// How many writers it is matched with.
+    pub(crate) here: u32,
 }
 
 impl Model for ReaderEnd {
@@ -116,7 +117,7 @@ impl ReaderEnd {
             store,
             seen: Seen::NOTHING,
             matches,
-            here: here as u16,
+            here: here as u32,
         })
     }
 
@@ -141,10 +142,10 @@ impl ReaderEnd {
         self.writers.as_slice()
     }
 
-    /// How many writers it knows, of which there are 256 at most.
+    /// How many writers it knows, of which there are 2^31 - 1 at most.
     pub fn row_count(&self) -> usize
         ensures count { result ≡ length self.now.writers }
-        ensures few { result ≤ 256 }
+        ensures few { result ≤ max_known }
     {
         self.writers.len()
     }

@@ -2,28 +2,37 @@
 //!
 //! RTPS 2.5, 8.4.10.3 (StatefulReader, matched_writer_add, matched_writer_remove).
 
-ghost use Rattle.std.specs.Prelude.{◌≡◌, ◌<◌, List, length, OnOk, OnErr, IfErr};
+ghost use Rattle.std.specs.Prelude.{◌≡◌, ◌<◌, List, None, length, OnOk, OnErr, IfErr, IfOk};
 ghost use Rattle.dds_base.specs.declared.code.Code.TheVariants.{Memory};
 ghost use Rattle.dds_base.specs.declared.endpoint.Endpoint.{Endpoint as EndpointOf};
+ghost use Rattle.dds_base.specs.Refusal.{Refuses};
+ghost use Rattle.dds_machine.specs.Matching.{max_known};
 ghost use Rattle.dds_machine.specs.Part.{Reader, WriterProxy, how_of, is_attached};
 ghost use Rattle.rtps_reader.specs.Tracked.{Tracked};
+ghost use Rattle.dds_ends.specs.Knowing.{KnowsMore};
+ghost use Rattle.dds_ends.specs.Meeting.{MeetsWriter, RefusesWriterSo};
 ghost use Rattle.dds_ends.specs.Parting.{Attaches, Detaches, IsPastParting, joined_here, left_here};
 ghost use Rattle.dds_ends.specs.Standing.{IsFirstRow, ReaderStands};
 
+use crate::matched_rows::writer_row_among;
+use crate::matching::WriterName;
 use crate::reader_end::ReaderEnd;
-use dds_base::{Code, Handle, Moment};
+use dds_base::{Code, Handle, MatchedWriter, Moment};
 use rtps_reader::Attachment;
+
+/// The most writers that a reader knows: as many as a status counts.
+const MAX_KNOWN: usize = i32::MAX as usize;
 
 /// With so many a reader is matched that was matched with so many, once it is told of one that it was matched with or
 /// not.
-fn joined_here(was: bool, here: u16) -> u16
+fn joined_here(was: bool, here: u32) -> u32
     ensures { result ≡ joined_here was here }
 {
     if was { here } else { here.saturating_add(1) }
 }
 
 /// The same, once that one has left.
-fn left_here(was: bool, here: u16) -> u16
+fn left_here(was: bool, here: u32) -> u32
     ensures { result ≡ left_here was here }
 {
     if was { here.saturating_sub(1) } else { here }
@@ -54,6 +63,59 @@ impl ReaderEnd {
         self.here = joined_here(self.is_attached(row), self.here);
         self.matches.make(self.writers[row].writer);
         self.reader.attach(row);
+    }
+
+    /// The reader knows one writer more, which it did not know: the last one. It is matched with it, and the place there
+    /// waits.
+    fn know(&mut self, name: WriterName, as_writer: MatchedWriter) -> Result<(), Code>
+        requires few { length self.old.writers < max_known }
+        ensures ok { OnOk result (KnowsMore self.old name as_writer self.new) }
+        ensures err { OnErr result (self.new ≡ self.old) }
+        ensures memory { IfErr result (λ code. code ≡ Memory) }
+    {
+        self.writers.reserve(1)?;
+        self.reader.append(self.alloc)?;
+        if let Err(code) = self.store.join(as_writer) {
+            self.reader.forget_last();
+            return Err(code);
+        }
+        self.writers.push_reserved(name);
+        self.here = joined_here(false, self.here);
+        self.matches.make(name.writer);
+        Ok(())
+    }
+
+    /// The reader is matched with this writer from now on, which it may not know; gives the row. One that it knows keeps
+    /// its row, its name and what was announced of it; one that it does not know has the last row.
+    ///
+    /// # Errors
+    ///
+    /// `PreconditionNotMet` where it is matched with that one, `OutOfResources` where it does not know that one and knows
+    /// 2^31 - 1, `Memory` where a growth was refused, or more than 2^64 - 1 entries would have happened; the reader is
+    /// then as it was.
+    ///
+    /// RTPS 2.5, 8.4.10.3 (matched_writer_add).
+    pub fn meet(&mut self, name: WriterName, as_writer: MatchedWriter) -> Result<usize, Code>
+        ensures ok { IfOk result (λ row. MeetsWriter self.old name as_writer row self.new) }
+        ensures accepted { OnOk result
+            (RefusesWriterSo self.old name.writer (λ refusal. refusal ≡ None)) }
+        ensures refused { IfErr result
+            (λ code. RefusesWriterSo self.old name.writer (λ refusal. Refuses refusal code)) }
+        ensures err { OnErr result (self.new ≡ self.old) }
+    {
+        let Some(row) = writer_row_among(self.writers.as_slice(), name.writer) else {
+            let row = self.writers.len();
+            if MAX_KNOWN <= row {
+                return Err(Code::OutOfResources);
+            }
+            self.know(name, as_writer)?;
+            return Ok(row);
+        };
+        if self.is_attached(row) {
+            return Err(Code::PreconditionNotMet);
+        }
+        self.attach(row);
+        Ok(row)
     }
 
     /// The writer of this row left at this moment: the reader is matched with it no longer. A writer that is alive dies

@@ -3,10 +3,50 @@
 //! DDS 1.4, 2.2.4.1 (communication statuses: each tells its change against the last look). `docs/DECISIONS.md`, "A
 //! reader's cache", says why a look is kept as what it saw.
 
-ghost use Rattle.std.specs.Prelude.{◌≡◌};
+ghost use Rattle.std.specs.Prelude.{◌≡◌, ◌<◌, ◌^◌, pos};
 ghost use Rattle.dds_base.specs.StatusFlags.{is_after};
 
 use std::marker::Model;
+
+/// How many writers: no more than a status counts (DDS 1.4, 2.3.3: a long).
+#[derive(Clone, Copy)]
+pub struct WriterCount {
+    count: u32,
+}
+
+impl Model for WriterCount {
+    ghost use Rattle.std.specs.Prelude.{ℕ, ◌^◌, ◌<◌};
+
+    ghost Value = { ℕ };
+
+    ghost view = { λ c. c.count };
+
+    ghost invariant = { λ c. c.count < 2 ^ 31 };
+
+    ghost inverse = { λ n. record { count = n } };
+}
+
+impl WriterCount {
+    /// No writer.
+    pub const NONE: WriterCount = WriterCount { count: 0 };
+
+    /// So many.
+    pub fn new(count: usize) -> WriterCount
+        requires few { count < 2 ^ 31 }
+        ensures count { result ≡ count }
+    {
+        WriterCount {
+            count: count as u32,
+        }
+    }
+
+    /// So many, as a status has them.
+    pub fn get(self) -> i32
+        ensures count { result ≡ pos self }
+    {
+        self.count as i32
+    }
+}
 
 /// What a reader's statuses said when each was looked at last, by a call or as a listener was told.
 #[derive(Clone, Copy)]
@@ -17,10 +57,10 @@ pub struct Seen {
     pub entries_at_lost: u64,
     /// How many entries there were as DATA_AVAILABLE was looked at.
     pub entries_at_data: u64,
-    /// How many matched writers were alive as LIVELINESS_CHANGED was looked at: at most 256.
-    pub alive: u16,
-    /// How many had died and were not alive then: at most 256.
-    pub not_alive: u16,
+    /// How many matched writers were alive as LIVELINESS_CHANGED was looked at.
+    pub alive: WriterCount,
+    /// How many had died and were not alive then.
+    pub not_alive: WriterCount,
     /// How many entries there were then.
     pub entries_at_turn: u64,
 }
@@ -41,8 +81,8 @@ impl Seen {
         lost: 0,
         entries_at_lost: 0,
         entries_at_data: 0,
-        alive: 0,
-        not_alive: 0,
+        alive: WriterCount::NONE,
+        not_alive: WriterCount::NONE,
         entries_at_turn: 0,
     };
 }

@@ -5,7 +5,7 @@
 ghost use Rattle.std.specs.Prelude.{◌≡◌, ◌+◌, ◌-◌, ◌^◌, ◌<◌, ◌≤◌, ◌∷◌, true, false, List, [], Some, if◌then◌else◌, IfOk, IfErr, OnOk, OnErr, length};
 ghost use Rattle.dds_base.specs.declared.code.Code.TheVariants.{Memory};
 ghost use Rattle.dds_base.specs.declared.happening.Happening.{Happening};
-ghost use Rattle.dds_base.specs.declared.happening.Happening.TheVariants.{Died};
+ghost use Rattle.dds_base.specs.declared.happening.Happening.TheVariants.{Died, Joined};
 ghost use Rattle.dds_base.specs.Access.{handle_of, has_match, instance_of};
 ghost use Rattle.dds_base.specs.Liveliness.{after_deaths, after_parting, dead_at};
 ghost use Rattle.dds_base.specs.Ownership.{IsMatched};
@@ -24,7 +24,8 @@ ghost use Rattle.rtps_reader.specs.Entering.{IsAmong};
 
 use crate::twin::Twin;
 use dds_base::{
-    Arrival, Code, Handle, Key, Masks, Moment, ReaderQos, Sample, Selection, Sequence, Sn,
+    Arrival, Code, Handle, Key, Masks, MatchedWriter, Moment, ReaderQos, Sample, Selection,
+    Sequence, Sn,
 };
 use dds_cache::{AccessKind, ReaderCache, Test};
 use dds_lease::Leases;
@@ -213,6 +214,31 @@ impl Store {
             self.turned = Some(self.cache.happened());
             after = writer;
         }
+    }
+
+    /// A writer is matched that was not known: it has the next publication handle. Where the cache refuses it, no lease
+    /// stays.
+    ///
+    /// # Errors
+    ///
+    /// `Memory` where a growth was refused, or after 2^64 - 1 entries; the store is then as it was.
+    ///
+    /// RTPS 2.5, 8.4.10.3 (matched_writer_add).
+    pub fn join(&mut self, writer: MatchedWriter) -> Result<(), Code>
+        ensures joined { OnOk result ((h : List Happening) → Holds self.old h
+            → Holds self.new (Joined writer ∷ h)) }
+        ensures err { OnErr result (self.new ≡ self.old) }
+        ensures memory { IfErr result (λ code. code ≡ Memory) }
+        ensures qos { qos_of self.new.cache ≡ qos_of self.old.cache }
+        ensures writers { OnOk result
+            (writer_count self.new.leases ≡ writer_count self.old.leases + 1) }
+    {
+        self.leases.join(writer)?;
+        if let Err(code) = self.cache.join(writer) {
+            self.leases.forget_last();
+            return Err(code);
+        }
+        Ok(())
     }
 
     /// A matched writer left at this moment. One that is alive dies first, so it is registered for nothing any more. It

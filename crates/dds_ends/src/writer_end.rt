@@ -2,8 +2,8 @@
 //!
 //! RTPS 2.5, 8.4.7 (StatefulWriter); DDS 1.4, 2.2.2.4 (DataWriter).
 
-ghost use Rattle.std.specs.Prelude.{◌≡◌, ◌≢◌, ◌+◌, ◌^◌, ◌<◌, ◌≤◌, ◌⊎◌, [], Option, length, map, nat_le, slice_get, slice_index, Some, None, true, false, IfSome, IfNone, IfOk, IfErr, OnOk, OnErr};
-ghost use Rattle.dds_base.specs.Bounds.{greatest_value, max_changes, max_ends, max_readers, window_width};
+ghost use Rattle.std.specs.Prelude.{◌≡◌, ◌≢◌, ◌+◌, ◌*◌, ◌^◌, ◌<◌, ◌≤◌, ◌⊎◌, [], Option, length, map, nat_le, slice_get, slice_index, Some, None, true, false, IfSome, IfNone, IfOk, IfErr, OnOk, OnErr};
+ghost use Rattle.dds_base.specs.Bounds.{greatest_value, max_changes, max_ends, window_width};
 ghost use Rattle.dds_base.specs.Checked.{check_refusal};
 ghost use Rattle.dds_base.specs.declared.code.Code.TheVariants.{Memory, OutOfResources, PreconditionNotMet};
 ghost use Rattle.dds_base.specs.Kept.{append_refusal};
@@ -13,7 +13,7 @@ ghost use Rattle.rtps_wire.specs.Content.{content_of};
 ghost use Rattle.rtps_writer.specs.Standing.{StandsFor as RtpsStandsFor};
 ghost use Rattle.rtps_writer.specs.WriterState.{WriterState};
 ghost use Rattle.dds_base.specs.declared.endpoint.Endpoint.{Endpoint as EndpointOf};
-ghost use Rattle.dds_machine.specs.Matching.{publication_matched};
+ghost use Rattle.dds_machine.specs.Matching.{max_known, publication_matched};
 ghost use Rattle.dds_machine.specs.Noticing.{loss_raised, publication_raised};
 ghost use Rattle.dds_machine.specs.Watching.{writer_statuses};
 ghost use Rattle.dds_machine.specs.Refusals.{strength_of, unregister_kind};
@@ -22,7 +22,7 @@ ghost use Rattle.dds_protocol.specs.Contact.{Contact};
 ghost use Rattle.dds_ends.specs.declared.matching.ReaderName.{ReaderName as NameOf};
 ghost use Rattle.dds_ends.specs.Answering.{HasRoom, AreRooms, IsAskedAt, IsUnaskedAt, IsUnasked, TakesAckNack, is_beyond, is_heeded};
 ghost use Rattle.dds_ends.specs.Beating.{BeatsOf, BeatsOfAll, HasNoCount, TellsOf};
-ghost use Rattle.dds_ends.specs.Coming.{ForgetsRow, Joins, Leaves, LooksAtMatches, RefusesSo, joining_refusal, leaving_refusal};
+ghost use Rattle.dds_ends.specs.Coming.{LooksAtMatches};
 ghost use Rattle.dds_ends.specs.MatchedEnds.{is_named, known_as};
 ghost use Rattle.dds_ends.specs.Identity.{writer_identity};
 ghost use Rattle.dds_ends.specs.Noticing.{MarksWriter, WriterRaisesSo, WriterSeesStatus};
@@ -34,12 +34,10 @@ ghost use Rattle.dds_ends.specs.Standing.{IsShort, WriterStands};
 ghost use Rattle.dds_ends.specs.Stepping.{Enters, Ticks, AllTick};
 
 use crate::answering::{Answering, Room, is_from, mark_heard, rooms, send_answers};
-use crate::coming::{add_peer, add_row, remove_name, set_count, set_peers};
 use crate::heartbeat::{Beat, send_beats, send_to_all};
 use crate::limits::limit_of;
 use crate::marks::WriterMark;
 use crate::match_counts::MatchCounts;
-use crate::matched_rows::row_among;
 use crate::matching::{
     Destination, LastCount, ReaderName, TopicName, destinations, first_counts, names_of,
     reliable_readers, topic_names,
@@ -62,21 +60,21 @@ use std::marker::Model;
 /// A writer, with those that it sends to.
 #[derive(Drop)]
 pub struct WriterEnd {
-    entity: EntityId,
-    autodispose: bool,
-    max_value: u32,
-    /// The readers of its topic, which never change.
-    known: Vec<TopicName>,
+    pub(crate) entity: EntityId,
+    pub(crate) autodispose: bool,
+    pub(crate) max_value: u32,
+    /// The readers of its topic that it knows, in the order in which it was told of them.
+    pub(crate) known: Vec<TopicName>,
     /// Its matched readers, reliable or not, in the order in which they came.
-    matched: Vec<ReaderName>,
+    pub(crate) matched: Vec<ReaderName>,
     /// Their peers.
-    destinations: Vec<Destination>,
+    pub(crate) destinations: Vec<Destination>,
     /// Its matched reliable readers, in the order of their indices in `writer`.
-    readers: Vec<ReaderName>,
+    pub(crate) readers: Vec<ReaderName>,
     /// Of each reliable reader that it is or was matched with.
-    counts: Vec<LastCount>,
-    matches: MatchCounts,
-    writer: StatefulWriter,
+    pub(crate) counts: Vec<LastCount>,
+    pub(crate) matches: MatchCounts,
+    pub(crate) writer: StatefulWriter,
 }
 
 impl Model for WriterEnd {
@@ -429,7 +427,7 @@ impl WriterEnd {
         requires short { length change.now.value ≤ greatest_value }
         ensures counted { length result.packets.items + result.unsent
             ≡ length self.now.destinations }
-        ensures few { result.unsent ≤ max_readers }
+        ensures few { result.unsent ≤ max_known }
         ensures announces { AreAnnouncements
             (record { prefix = prefix; entity = self.now.entity; moment = moment }) number
             (content_of change.now) self.now.destinations result.packets.items }
@@ -561,7 +559,7 @@ impl WriterEnd {
         receiver: &MessageReceiver,
         body: &AckNack,
     ) -> Result<Vec<Option<Room>>, AllocError>
-        ensures few { IfOk result (λ all. length all.items ≤ max_readers) }
+        ensures few { IfOk result (λ all. length all.items ≤ max_known) }
         ensures rooms { IfOk result
             (λ all. AreRooms own.now self.now.entity
             (receiver_at receiver.now) body.now self.now.readers all.items) }
@@ -632,7 +630,7 @@ impl WriterEnd {
         ensures ok { OnOk result (Enters self.old (Asserted now) self.new) }
         ensures tells { IfOk result
             (λ sent. TellsOf prefix self.old sent.packets.items sent.unsent) }
-        ensures few { IfOk result (λ sent. sent.unsent ≤ max_readers) }
+        ensures few { IfOk result (λ sent. sent.unsent ≤ max_known) }
         ensures refused { IfErr result (λ code. (code ≡ OutOfResources) × HasNoCount self.old) }
         ensures messages { IfOk result (λ sent. AreMessages sent.packets.items) }
         ensures err { OnErr result (self.new ≡ self.old) }
@@ -665,8 +663,8 @@ impl WriterEnd {
     ///
     /// RTPS 2.5, 8.4.9 (reliable StatefulWriter: heartbeatPeriod).
     pub fn tick(&mut self, alloc: Global, prefix: GuidPrefix, now: Moment, sent: &mut Announced)
-        requires room { sent.old.unsent ≤ 4096 }
-        ensures few { sent.new.unsent ≤ sent.old.unsent + max_readers }
+        requires room { sent.old.unsent ≤ max_ends * max_known }
+        ensures few { sent.new.unsent ≤ sent.old.unsent + max_known }
         ensures ticks { Ticks self.old now self.new }
         ensures beats { BeatsOf prefix self.old sent.old.packets.items sent.old.unsent
             sent.new.packets.items sent.new.unsent }
@@ -683,91 +681,6 @@ impl WriterEnd {
         }
         self.writer.tell_all();
     }
-
-    /// Has no row of this reader any more, but the count of the last of its ACKNACKs that was applied, for a match to come.
-    fn forget_row(&mut self, reader: Endpoint)
-        ensures { ForgetsRow self.old reader self.new }
-    {
-        let Some(row) = row_among(self.readers.as_slice(), reader) else {
-            return;
-        };
-        let count = self.writer.leave(row);
-        let _ = self.readers.remove(row);
-        set_count(self.counts.as_mut_slice(), reader, count);
-    }
-
-    /// It is told that a reader has left: it has nothing more of that one, and what that one alone had not acknowledged
-    /// is not kept any longer. It sends no more to that one's peer, unless another reader there is matched. No memory is
-    /// wanted.
-    ///
-    /// # Errors
-    ///
-    /// `BadParameter` for a reader that is none of its topic, `PreconditionNotMet` where it is not matched with that
-    /// one; the writer is then as it was.
-    ///
-    /// RTPS 2.5, 8.4.7.4 (StatefulWriter, matched_reader_remove).
-    pub fn leave(&mut self, reader: Endpoint) -> Result<(), Code>
-        ensures ok { OnOk result (Leaves self.old reader self.new) }
-        ensures accepted { OnOk result
-            (RefusesSo leaving_refusal self.old reader (λ refusal. refusal ≡ None)) }
-        ensures refused { IfErr result
-            (λ code. RefusesSo leaving_refusal self.old reader (λ refusal. refusal ≡ Some code)) }
-        ensures no_memory { IfErr result (λ code. code ≢ Memory) }
-        ensures err { OnErr result (self.new ≡ self.old) }
-    {
-        let Some(_) = self.knows(reader) else {
-            return Err(Code::BadParameter);
-        };
-        if !self.is_matched(reader) {
-            return Err(Code::PreconditionNotMet);
-        }
-        self.forget_row(reader);
-        remove_name(&mut self.matched, reader);
-        set_peers(&mut self.destinations, self.matched.as_slice());
-        self.matches.end(reader);
-        Ok(())
-    }
-
-    /// It is told that it is matched with this reader of its topic from now on: the reader comes last. It is owed what
-    /// is made from now on, and what was made counts as acknowledged. A reliable one that is greeted is silent until it
-    /// answers.
-    ///
-    /// # Errors
-    ///
-    /// `BadParameter` for a reader that is none of its topic, `PreconditionNotMet` where it is matched with that one,
-    /// `Memory` where a growth was refused; the writer is then as it was.
-    ///
-    /// RTPS 2.5, 8.4.7.4 (StatefulWriter, matched_reader_add); DDS 1.4, 2.2.3 (DURABILITY: VOLATILE).
-    pub fn join(&mut self, reader: Endpoint, greeted: bool) -> Result<(), Code>
-        ensures ok { OnOk result (Joins self.old reader greeted self.new) }
-        ensures accepted { OnOk result
-            (RefusesSo joining_refusal self.old reader (λ refusal. refusal ≡ None)) }
-        ensures refused { IfErr result
-            (λ code. RefusesSo joining_refusal self.old reader (λ refusal. Refuses refusal code)) }
-        ensures err { OnErr result (self.new ≡ self.old) }
-    {
-        let Some(known) = self.knows(reader) else {
-            return Err(Code::BadParameter);
-        };
-        if self.is_matched(reader) {
-            return Err(Code::PreconditionNotMet);
-        }
-        // Before anything changes.
-        self.matched.reserve(1)?;
-        self.destinations.reserve(1)?;
-        add_row(
-            &mut self.readers,
-            &mut self.counts,
-            &mut self.writer,
-            known.name,
-            known.is_reliable,
-            greeted,
-        )?;
-        self.matched.push_reserved(known.name);
-        add_peer(&mut self.destinations, known.name.peer());
-        self.matches.make(reader);
-        Ok(())
-    }
 }
 
 /// The time of a peer, of this prefix, has gone on to this moment: each of its writers ticks.
@@ -780,7 +693,7 @@ pub fn tick_all(
     requires few { length writers.old ≤ max_ends }
     ensures ticks { AllTick writers.old now writers.new }
     ensures beats { BeatsOfAll prefix writers.old result.packets.items result.unsent }
-    ensures few { result.unsent ≤ 4096 }
+    ensures few { result.unsent ≤ max_ends * max_known }
     ensures messages { AreMessages result.packets.items }
 {
     let mut sent = Announced {

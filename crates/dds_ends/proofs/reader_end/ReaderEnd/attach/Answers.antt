@@ -1,5 +1,6 @@
-use Rattle.std.proofs.Common.{◌≡◌, ℕ, ◌<◌, ◌≤◌, Some, arith, length, refl, slice_get, subst, sym}
+use Rattle.std.proofs.Common.{◌≡◌, ℕ, ◌<◌, ◌≤◌, Some, length, refl, slice_get, subst, sym}
 use Rattle.std.proofs.lemmas.Option.{slice_get_read}
+use Rattle.dds_machine.specs.Matching.{max_known}
 use Rattle.dds_ends.specs.Kept.{ReaderKept}
 use Rattle.dds_ends.specs.Parting.{Attaches, joined_here}
 use Rattle.dds_ends.proofs.Parting.{IsMatchedSo, attaches}
@@ -22,9 +23,7 @@ returns c =
     subst (λ (k : ReaderKept). IsMatchedSo k c.args.row c.is_attached.result) (sym c.self.view_is) c.is_attached.ensures.attached in
     let at : slice_get kept.writers c.args.row ≡ Some c.index.result.now =
     slice_get_read kept.writers (length kept.writers) c.args.row c.index.result.now refl within c.index.ensures in
-    let fits = c.self.invariant.fits in
-    let many = c.self.invariant.many in
-    let few : length kept.writers ≤ 256 = omega (arith, fits, many) in
+    let few : length kept.writers ≤ max_known = c.self.invariant.many in
     let attached =
     subst (λ (n : ℕ). Attaches c.args.self.now c.args.row
     (record kept { reader = c.attach.new.self; matches = c.make.new.self; here = n }))

@@ -1,8 +1,6 @@
-use Rattle.std.proofs.Common.{ℕ, subst}
-use Rattle.dds_machine.specs.Matching.{seen_matches}
+use Rattle.std.proofs.Common.{subst}
 use Rattle.dds_ends.specs.Kept.{ReaderKept}
 use Rattle.dds_ends.specs.Looking.{SeesMatches}
-use Rattle.dds_ends.specs.MatchCounts.{CountsFor}
 use Rattle.dds_ends.proofs.SeenMatches.{sees_kept}
 use Rattle.dds_ends.proofs.reader_end.ReaderEnd.get_subscription_matched.Goals as goal
 
@@ -18,6 +16,4 @@ returns-clause-seen c =
       here = c.self.inside.here;
     } in
     subst (λ (k : ReaderKept). SeesMatches k (record kept { matches = c.see.new.self })) c.self.view_is
-    (sees_kept kept c.see.new.self
-    (λ m counts. subst (λ (n : ℕ). CountsFor c.see.new.self (seen_matches m n)) c.from.ensures
-    (c.see.ensures.seen m counts)))
+    (sees_kept kept c.see.new.self (λ m counts. c.see.ensures.seen m counts))

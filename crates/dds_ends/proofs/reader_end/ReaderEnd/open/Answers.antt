@@ -39,8 +39,8 @@ overflow_cast-result c =
     let count = c.len-here.ensures ∙ c.in_ok-names.field-0.names.ok.0 in
     omega (arith, few, count)
 
-pub invariant_of-result : goal.invariant_of-result
-invariant_of-result c =
+pub invariant_of-result-3 : goal.invariant_of-result-3
+invariant_of-result-3 c =
     rows_fit c.args.peers.now c.args.config.now c.in_ok-names.field-0.names.items c.in_ok-names.field-0.qos.items
     c.in-Ok.reader c.in-Ok-open.store c.in_ok-names.ensures.names c.in_ok-names.ensures.qos
     (c.in-Ok.ensures.count ∙ (c.len-here.ensures ∙ c.in_ok-names.field-0.names.ok.0))

@@ -1,16 +1,18 @@
-use Rattle.std.proofs.Common.{true, List, length, map, refl, ap, sym, subst, ◌∙◌, arith}
+use Rattle.std.proofs.Common.{true, List, map, refl, ap, sym, subst, ◌∙◌}
 use Rattle.std.specs.Prelude.{Ok}
 use Rattle.dds_base.specs.Written.{Asserted}
 use Rattle.rtps_writer.specs.declared.heartbeat.HeartbeatDue.{HeartbeatDue}
 use Rattle.dds_machine.specs.Calls.{with_written}
 use Rattle.dds_protocol.specs.DueMessages.{Due, AreSent}
+use Rattle.dds_protocol.specs.Dues.{AreFew}
 use Rattle.dds_ends.specs.declared.heartbeat.Beat.{Beat}
 use Rattle.dds_ends.specs.declared.matching.Destination.{Destination}
 use Rattle.dds_ends.specs.declared.matching.ReaderName.{ReaderName}
 use Rattle.dds_ends.specs.Beating.{assertions_of, beats_message}
 use Rattle.dds_ends.specs.Kept.{WriterKept}
+use Rattle.dds_ends.specs.MatchedEnds.{readers_of}
 use Rattle.dds_ends.specs.Standing.{state_of}
-use Rattle.dds_ends.proofs.Among.{few_matched}
+use Rattle.dds_ends.proofs.Among.{as_few_at}
 use Rattle.dds_ends.proofs.Asserting.{count_left, due_told, nowhere, told_are, told_is, told_none}
 use Rattle.dds_ends.proofs.WriterEnds.{enters_if, kept_as, stands_there}
 use Rattle.dds_ends.proofs.writer_end.WriterEnd.assert.Goals as goal
@@ -21,11 +23,11 @@ send_to_all-requires-clause-due c =
     due_told c.assert.new.self whole.state _ c.args.now c.in-Some.due (c.in_ok-due.ensures.ok whole.state whole.stands)
     (sym (c.in_ok-due.ensures.accepted whole.state whole.stands).1 ∙ c.in-Some.is)
 
-pub send_to_all-requires-clause-many : goal.send_to_all-requires-clause-many
-send_to_all-requires-clause-many c =
-    let few = few_matched c.self.invariant in
-    let same = ap (λ (ns : List ReaderName). length ns) c.as_slice-2.ensures.value in
-    omega (arith, few, same)
+pub send_to_all-requires-clause-few : goal.send_to_all-requires-clause-few
+send_to_all-requires-clause-few c =
+    let whole = c.self.invariant in
+    subst (λ (ns : List ReaderName). AreFew (readers_of ns)) (sym c.as_slice-2.ensures.value)
+    (as_few_at c.self.inside.known.items c.self.inside.matched.items whole.matched_are whole.few_at)
 
 pub returns-clause-ok : goal.returns-clause-ok
 returns-clause-ok c =

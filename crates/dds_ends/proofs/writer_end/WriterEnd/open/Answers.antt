@@ -48,7 +48,8 @@ pub invariant_of-result : goal.invariant_of-result
 invariant_of-result c =
     whole_opened c.args.peers.now c.args.config.now c.in_ok-known.known.items c.in_ok-matched.matched.items
     c.in_ok-destinations.destinations.items c.in_ok-readers.readers.items c.limit_of-limit.result
-    c.carried_strength-strength.result c.in-Ok.writer c.len-reliable.result c.in_ok-known.ensures.names
+    c.carried_strength-strength.result c.in-Ok.writer c.len-reliable.result c.requires.checked
+    c.in_ok-known.ensures.names
     c.in_ok-known.ensures.many
     (c.in_ok-matched.ensures ∙ ap (λ (ks : List TopicName). names_of ks) c.as_slice.ensures.value)
     c.in_ok-destinations.ensures.names c.in_ok-destinations.ensures.few c.in_ok-readers.ensures.names

@@ -39,6 +39,7 @@ invariant_of-self c =
     let whole = c.self.invariant in
     record {
       limited = whole.limited;
+      few_at = whole.few_at;
       matched_are = whole.matched_are;
       once = whole.once;
       among = whole.among;

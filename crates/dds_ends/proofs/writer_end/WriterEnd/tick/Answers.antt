@@ -3,14 +3,17 @@ use Rattle.rtps_writer.specs.WriterState.{heartbeat_due, ticked as rtps_ticked, 
 use Rattle.rtps_writer.specs.declared.heartbeat.HeartbeatDue.{HeartbeatDue}
 use Rattle.dds_machine.specs.Ticks.{ticked}
 use Rattle.dds_protocol.specs.DueMessages.{Due}
+use Rattle.dds_protocol.specs.Dues.{AreFew}
 use Rattle.dds_ends.specs.declared.heartbeat.Beat.{Beat}
 use Rattle.dds_ends.specs.declared.matching.ReaderName.{ReaderName}
 use Rattle.dds_ends.specs.declared.sending.Announced.{Announced}
 use Rattle.dds_ends.specs.Beating.{AddsTo, beats_of, beats_to}
 use Rattle.dds_ends.specs.Kept.{WriterKept}
+use Rattle.dds_ends.specs.MatchedEnds.{readers_of}
 use Rattle.dds_ends.specs.Sending.{AreMessages}
 use Rattle.dds_ends.specs.Standing.{state_of}
 use Rattle.dds_ends.specs.Stepping.{some_await}
+use Rattle.dds_ends.proofs.Among.{as_few_at, rows_are}
 use Rattle.dds_ends.proofs.Beating.{adds_none, beats_are, beats_none, due_at, due_is}
 use Rattle.dds_ends.proofs.WriterEnds.{kept_as, stands_there, ticked_there, ticks}
 use Rattle.dds_ends.proofs.writer_end.WriterEnd.tick.Goals as goal
@@ -22,11 +25,18 @@ send_beats-requires-clause-due c =
     due_at c.tick.new.self whole.state c.args.now c.in-Some.due (c.tick.ensures.stands whole.state whole.stands)
     (sym (c.tick.ensures.due whole.state whole.stands) ∙ c.in-Some.is)
 
+pub send_beats-requires-clause-few : goal.send_beats-requires-clause-few
+send_beats-requires-clause-few c =
+    let whole = c.self.invariant in
+    subst (λ (ns : List ReaderName). AreFew (readers_of ns)) (sym c.as_slice.ensures.value)
+    (as_few_at c.self.inside.known.items c.self.inside.readers.items (rows_are whole) whole.few_at)
+
 pub invariant_of-self : goal.invariant_of-self
 invariant_of-self c =
     let whole = c.self.invariant in
     record {
       limited = whole.limited;
+      few_at = whole.few_at;
       matched_are = whole.matched_are;
       once = whole.once;
       among = whole.among;
