@@ -50,7 +50,7 @@ use Rattle.dds_ends.specs.MatchCounts.{CountsFor}
 use Rattle.dds_ends.specs.Kept.{ReaderKept}
 use Rattle.dds_core.specs.Kept.{PeerKept}
 use Rattle.dds_ends.specs.Looking.{TakesOnly, access_reply}
-use Rattle.dds_ends.specs.Standing.{IsFirstRow, ReaderStands, stood_as}
+use Rattle.dds_ends.specs.Standing.{HasNoRow, IsFirstRow, ReaderStands, stood_as}
 use Rattle.dds_core.specs.Standing.{StandsFor}
 use Rattle.dds_core.proofs.CallSteps.{FollowsBy, follows_as, knows_still, refused_call, still_stands, there_is}
 use Rattle.dds_core.proofs.Ends.{with_reader, own_reader_changed}
@@ -141,6 +141,7 @@ one_entered entry quiet k k' proxies r tracked samples same s stands = record {
   knows =
       λ w n f. subst (λ (x : Proxies). Tracks x n (tracked w)) (sym same.reader)
       (s.knows w n (subst (λ (ns : List WriterName). IsFirstRow ns w n) same.writers f));
+  others = λ w none. s.others w (subst (λ (ns : List WriterName). HasNoRow ns w) same.writers none);
   qos_is = s.qos_is ∙ sym same.qos;
   holds = record {
     cache = stands;

@@ -20,7 +20,6 @@ use Rattle.dds_protocol.specs.Peer.{Peer}
 use Rattle.dds_protocol.specs.Contact.{Contact}
 use Rattle.dds_protocol.specs.DueMessages.{Due, AreSent, assertions_due, heartbeats_for}
 use Rattle.dds_protocol.proofs.DuesAssertions.{assertions_true}
-use Rattle.dds_protocol.proofs.Rosters.{configs_are_rosters}
 use Rattle.dds_ends.specs.Beating.{HasNoCount, TellsOf, assertions_of}
 use Rattle.dds_ends.specs.Kept.{WriterKept}
 use Rattle.dds_core.specs.Kept.{PeerKept}
@@ -89,7 +88,7 @@ asserts kept i k k' config peer s at lt enters packets unsent tells =
     record { answers = answered_as _ Done peer.part.dds peer.part Done accepted refl; rtps = refl } in
     let truthful =
     assertions_true config no_filters (peer.known.answered (suc i)) peer.number (suc i) peer.part after.part
-    (configs_are_rosters config s.is_peer.checked) (part_of config peer kept s) step in (
+    s.is_peer.roster (part_of config peer kept s) step in (
       after,
       record {
         same_number = refl;

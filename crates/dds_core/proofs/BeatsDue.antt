@@ -29,7 +29,6 @@ use Rattle.dds_protocol.proofs.DuesGrowth.{true_on}
 use Rattle.dds_protocol.proofs.DuesHeartbeats.{heartbeats_truthful}
 use Rattle.dds_protocol.proofs.DuesMatched.{reader_entity_is}
 use Rattle.dds_protocol.proofs.Growth.{TickStep-acknowledged, TickStep-grows}
-use Rattle.dds_protocol.proofs.Rosters.{configs_are_rosters}
 use Rattle.dds_machine.proofs.Tables.{no_less_same}
 use Rattle.dds_ends.specs.declared.heartbeat.Beat.{Beat}
 use Rattle.dds_ends.specs.declared.matching.Destination.{Destination}
@@ -380,7 +379,7 @@ due_true config peer kept now packets unsent s accepted beats packet claim among
     let contacts : ℕ → Endpoint → Contact = peer.known.answered in
     let new = after_tick (was_asked contacts old) old now in
     let step : TickStep old now Done new = (was_asked contacts old, (accepted, refl)) in
-    let truthful = heartbeats_truthful config contacts peer.number old (configs_are_rosters config s.is_peer.checked)
+    let truthful = heartbeats_truthful config contacts peer.number old s.is_peer.roster
     (part_of config peer kept s) in
     let before =
     sent_true config peer.number old (heartbeats_due config contacts peer.number old) packets unsent truthful

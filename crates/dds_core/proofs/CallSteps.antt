@@ -427,6 +427,7 @@ ticks kept writers readers config peer s now on early all expired output done be
             (expired_names now kept.readers readers expired) s.is_peer;
         moment = refl;
         early = early;
+        names = s.names;
         watch = s.watch;
         writers =
             writers_ticked now asked kept.writers writers peer.part.rtps.writers peer.known.answered all s.writers

@@ -1,5 +1,5 @@
 -- The sums of what a datagram holds: reader after reader, and submessage after submessage, as they are read.
-use Rattle.std.proofs.Common.{◌≡◌, ℕ, suc, ◌+◌, ◌-◌, ◌<◌, List, [], ◌∷◌, ◌++◌, length, take, get_or, slice_get, Option, Some, subst, ap, sym, ◌∙◌, refl, inl, inr, ⊎_elim, arith}
+use Rattle.std.proofs.Common.{◌≡◌, ℕ, suc, ◌+◌, ◌-◌, ◌<◌, Bool, ◌&&◌, List, [], ◌∷◌, ◌++◌, length, take, get_or, slice_get, Option, Some, subst, ap, sym, ◌∙◌, refl, inl, inr, ⊎_elim, arith}
 use Rattle.std.proofs.lemmas.List.{take_more}
 use Rattle.dds_base.specs.declared.config.Config.{Config}
 use Rattle.dds_base.specs.declared.guid.EntityId.{EntityId}
@@ -16,16 +16,19 @@ use Rattle.rtps_wire.proofs.MessageLaws.{reads_on, message_read}
 use Rattle.dds_base.specs.declared.endpoint.Endpoint.{Endpoint}
 use Rattle.dds_protocol.specs.Claims.{Receiver, receiver_of, after_submessage}
 use Rattle.dds_protocol.specs.Peer.{Peer}
+use Rattle.dds_protocol.proofs.Finding.{finds_writer}
 use Rattle.dds_core.specs.declared.observing.Observed.{Observed}
 use Rattle.dds_ends.specs.Kept.{ReaderKept}
 use Rattle.dds_core.specs.Kept.{PeerKept}
 use Rattle.dds_core.specs.Observing.{Sums, Counts, Observes, OldAt, OldData, OldHeartbeats, ToNobody, one_where}
+use Rattle.dds_ends.specs.Observing.{is_counted, is_old}
 use Rattle.dds_ends.specs.ObservingKept.{IsOldAtRow}
 use Rattle.dds_core.specs.ObservingKept.{CountsOld, ObservesBody, ObservesAll, ObservesFrame, ObservesSubmessage, OldToReaders, SumsBody, ToNobodyOf}
 use Rattle.dds_ends.specs.Readiness.{IsNamedFor, NamedBy, writer_guid}
 use Rattle.dds_core.specs.Standing.{StandsFor}
 use Rattle.dds_ends.proofs.Named.{names_one}
-use Rattle.dds_core.proofs.Named.{first_row, is_to, row_of_writer}
+use Rattle.dds_core.proofs.KnownWriters.{has_none, row_known, unknown_there}
+use Rattle.dds_core.proofs.Named.{first_row, is_to}
 use Rattle.dds_core.proofs.Taking.{prefix_is}
 
 -- ---- the readers of a peer
@@ -62,14 +65,24 @@ old_at config peer kept s i k at_k of at submessage reader_id writer_id by n h =
     inl (
       here.first.name.writer,
       is_to config peer kept s i k at_k at reader_id writer_id f.row here,
-      h.2 ∙ ap one_where (f.is here.first.name here.first.at (peer.known.tracked here.first.name.writer (suc i))
-          ((s.readers.each i k at_k).knows here.first.name.writer f.row first)),
+      h.2 ∙ (ap one_where (f.is here.first.name here.first.at (peer.known.tracked here.first.name.writer (suc i))
+          ((s.readers.each i k at_k).knows here.first.name.writer f.row first))
+          ∙ sym (ap (λ (b : Bool). one_where (b && is_counted of here.first.name.writer
+          && is_old (peer.known.tracked here.first.name.writer (suc i)) submessage))
+          (row_known config peer kept s i k at_k f.row here.first.name here.first.at))),
     ))
-    (λ u. inr (
-      λ w to. row_of_writer config peer kept s i k at_k at reader_id writer_id w to
-          (λ row named. u.0 reader_id writer_id by row named),
-      h.2 ∙ ap one_where u.1,
-    )) h.1
+    (λ u.
+    ⊎_elim
+    (λ w. inl (
+      w.0,
+      w.1,
+      h.2 ∙ (ap one_where u.1
+          ∙ sym (ap (λ (b : Bool). one_where (b && is_counted of w.0
+          && is_old (peer.known.tracked w.0 (suc i)) submessage))
+          (unknown_there config peer kept s i k at_k w.0
+          (has_none config peer kept s i k at_k at reader_id writer_id w.0 w.1 (u.0 reader_id writer_id by))))),
+    )) (λ n. inr (n, h.2 ∙ ap one_where u.1))
+    (finds_writer config kept.prefix at reader_id writer_id (record { peer = peer.number; number = suc i }))) h.1
 
 -- from the readers that a peer keeps to their numbers
 of_readers : (config : Config) (peer : Peer) (kept : PeerKept) (s : StandsFor kept config peer) (of : Option Endpoint)

@@ -7,7 +7,6 @@ use Rattle.dds_machine.specs.declared.reply.Reply.TheVariants.{Reported}
 use Rattle.dds_protocol.specs.Peer.{Peer, state_of}
 use Rattle.dds_protocol.proofs.DuesPackets.{packet_truthful}
 use Rattle.dds_protocol.proofs.RuledPackets.{takes_packet}
-use Rattle.dds_protocol.proofs.Rosters.{configs_are_rosters}
 use Rattle.dds_ends.specs.declared.sending.Announced.{Announced}
 use Rattle.dds_core.specs.Kept.{PeerKept}
 use Rattle.dds_core.specs.Receiving.{with_state, ReceivedPacket, ReceivesPacket}
@@ -25,10 +24,10 @@ delivers old new bytes report gone receives config peer s sound =
     let r : ReceivedPacket config peer bytes report new gone = receives config peer s in
     let rests =
     takes_packet config peer.number peer.delivered bytes
-    (state_of peer) report r.dues r.state (configs_are_rosters config s.is_peer.checked) sound r.takes in
+    (state_of peer) report r.dues r.state s.is_peer.roster sound r.takes in
     let truthful =
     packet_truthful config peer.number peer.delivered bytes
-    (state_of peer) report r.dues r.state (configs_are_rosters config s.is_peer.checked) sound s.tellable r.takes in
+    (state_of peer) report r.dues r.state s.is_peer.roster sound s.tellable r.takes in
     let after : Peer =
     record {
       number = peer.number;

@@ -107,6 +107,7 @@ own_writer_put config peer kept s i k k' at is_peer w answered stands others tel
       is_peer = is_peer;
       moment = s.moment;
       early = s.early;
+      names = s.names;
       watch = s.watch;
       writers = record {
         count = length-set ws i w ∙ (s.writers.count ∙ sym (length-set kept.writers i k'));
@@ -159,6 +160,7 @@ reader_stands_on k proxies r old new same s = record {
   writers_are = s.writers_are;
   places = λ w p at. ap (λ (t : Tracked). t.place) (same w) ∙ s.places w p at;
   knows = λ w j first. subst (λ (t : Tracked). Tracks k.reader j t) (sym (same w)) (s.knows w j first);
+  others = λ w none. same w ∙ s.others w none;
   qos_is = s.qos_is;
   holds = s.holds;
   seen_is = s.seen_is;
@@ -184,6 +186,7 @@ own_reader_stepped kept i k k' proxies r known config peer s at same counts othe
           (sym (same_with_reader kept i k k' at same)) s.is_peer;
       moment = s.moment;
       early = s.early;
+      names = s.names;
       watch = s.watch;
       writers =
           subst (λ (answered : ℕ → Endpoint → Contact). WritersStand kept.writers peer.part.rtps.writers answered)

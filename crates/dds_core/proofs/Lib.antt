@@ -19,6 +19,7 @@ pub mod Looked
 pub mod Watched
 pub mod Triggers
 pub mod Named
+pub mod KnownWriters
 pub mod Takes
 pub mod Meeting
 pub mod TakenSoFar
@@ -41,6 +42,7 @@ pub mod Filtering
 pub mod Notified
 pub mod WriterNotified
 pub mod Ended
+pub mod InRosters
 pub mod Counted
 pub mod ToNobody
 pub mod MissLaws

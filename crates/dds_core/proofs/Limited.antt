@@ -1,17 +1,16 @@
--- How long the values of a peer's writer may be: a configuration that is taken sets a limit to them.
-use Rattle.std.proofs.Common.{◌≡◌, ℕ, zero, suc, ◌≤◌, ◌==◌, Bool, true, false, not, ◌||◌, length, List, [], ◌∷◌, Option, Some, None, slice_get, refl, subst, sym, arith}
-use Rattle.std.specs.Prelude.{if◌then◌else◌, nat_lt}
+-- How long the values of a peer's writer may be: a roster sets a limit to them.
+use Rattle.std.proofs.Common.{◌≡◌, ℕ, zero, suc, ◌≤◌, ◌==◌, Bool, true, false, not, ◌||◌, length, List, [], ◌∷◌, Some, slice_get, refl, subst, sym, arith}
+use Rattle.std.specs.Prelude.{nat_lt}
 use Rattle.std.specs.List.{list_any}
 use Rattle.std.proofs.lemmas.Bool.Decides.{nat_tests}
 use Rattle.std.proofs.lemmas.Option.{same_Some}
-use Rattle.dds_base.specs.declared.code.Code.{Code}
-use Rattle.dds_base.specs.declared.code.Code.TheVariants.{BadParameter}
 use Rattle.dds_base.specs.declared.config.Config.{Config}
 use Rattle.dds_base.specs.declared.config.PeerConfig.{PeerConfig}
 use Rattle.dds_base.specs.declared.config.WriterConfig.{WriterConfig}
 use Rattle.dds_base.specs.declared.config.ReaderConfig.{ReaderConfig}
-use Rattle.dds_base.specs.Bounds.{max_ends, max_peers}
-use Rattle.dds_base.specs.Checked.{check_refusal, entity_count, has_bad_parameter, has_kind, has_no_depth, is_bad_lease, is_bad_peer, is_bad_reader, is_bad_writer, is_maximum, prefix_count, same_prefix, unknown_prefix}
+use Rattle.dds_base.specs.Bounds.{max_ends}
+use Rattle.dds_base.specs.Checked.{entity_count, has_kind, has_no_depth, is_bad_lease, is_bad_peer, is_bad_reader, is_bad_writer, is_maximum}
+use Rattle.dds_protocol.specs.Roster.{IsRoster}
 use Rattle.dds_core.specs.Identity.{IsPeerOf, identity_of}
 use Rattle.dds_ends.specs.Kept.{WriterKept}
 use Rattle.dds_core.specs.Kept.{PeerKept}
@@ -33,13 +32,6 @@ none_passes test (y ∷ ys) zero x none at =
 none_passes test (y ∷ ys) (suc i) x none at =
     none_passes test ys i x (or_right (test y) (list_any test ys) none) at
 
-taken : (peers : List PeerConfig) → check_refusal peers ≡ None → has_bad_parameter peers ≡ false
-taken peers h = by (has_bad_parameter peers) _ h
-  where
-    by : (b : Bool) (rest : Option Code) → (if b then Some BadParameter else rest) ≡ None → b ≡ false
-    by true rest e = absurd cc
-    by false rest e = refl
-
 third : (a b c : Bool) → (a || (b || c)) ≡ false → c ≡ false
 third a b c h = or_right b c (or_right a (b || c) h)
 
@@ -49,15 +41,27 @@ third_of_four a b c d h = or_left c d (third a b (c || d) h)
 last_of_six : (a b c d e f : Bool) → (a || (b || (c || (d || (e || f))))) ≡ false → f ≡ false
 last_of_six a b c d e f h = third d e f (or_right c (d || (e || f)) (third a b (c || (d || (e || f))) h))
 
--- of each writer of a configuration that is taken
-limited : (peers : List PeerConfig) → check_refusal peers ≡ None → (n : ℕ) (p : PeerConfig)
-    → slice_get peers n ≡ Some p → (i : ℕ) (w : WriterConfig) → slice_get p.writers i ≡ Some w → w.max_value ≤ 65000
-limited peers checked n p at i w there =
-    let peer : is_bad_peer p ≡ false =
-    none_passes is_bad_peer peers n p
-    (third ((length peers == 0) || nat_lt max_peers (length peers)) (list_any (λ (q : PeerConfig).
-    same_prefix q.prefix unknown_prefix || nat_lt 1 (prefix_count peers q.prefix)) peers) (list_any is_bad_peer peers)
-    (taken peers checked)) at in
+-- a peer of a roster has few writers, and few readers
+pub few_ends : (peers : List PeerConfig) → IsRoster peers → (n : ℕ) (p : PeerConfig) → slice_get peers n ≡ Some p
+    → (length p.writers ≤ 16) × (length p.readers ≤ 16)
+few_ends peers roster n p at =
+    let peer : is_bad_peer p ≡ false = none_passes is_bad_peer peers n p roster.each at in
+    let sizes : (nat_lt 16 (length p.writers) || nat_lt 16 (length p.readers)) ≡ false =
+    or_left (nat_lt 16 (length p.writers) || nat_lt 16 (length p.readers))
+    ((list_any (λ (v : WriterConfig). nat_lt 1 (entity_count p v.entity)) p.writers
+    || list_any (λ (r : ReaderConfig). nat_lt 1 (entity_count p r.entity)) p.readers)
+    || (list_any is_bad_writer p.writers || list_any is_bad_reader p.readers)) peer in
+    let writers : nat_lt 16 (length p.writers) ≡ false =
+    or_left (nat_lt 16 (length p.writers)) (nat_lt 16 (length p.readers)) sizes in
+    let readers : nat_lt 16 (length p.readers) ≡ false =
+    or_right (nat_lt 16 (length p.writers)) (nat_lt 16 (length p.readers)) sizes in
+    (grind (arith, nat_tests, writers), grind (arith, nat_tests, readers))
+
+-- of each writer of a roster
+limited : (peers : List PeerConfig) → IsRoster peers → (n : ℕ) (p : PeerConfig) → slice_get peers n ≡ Some p → (i : ℕ)
+    (w : WriterConfig) → slice_get p.writers i ≡ Some w → w.max_value ≤ 65000
+limited peers roster n p at i w there =
+    let peer : is_bad_peer p ≡ false = none_passes is_bad_peer peers n p roster.each at in
     let writer : is_bad_writer w ≡ false =
     none_passes is_bad_writer p.writers i w
     (third_of_four (nat_lt max_ends (length p.writers) || nat_lt max_ends (length p.readers))
@@ -74,4 +78,4 @@ pub value_limited : (config : Config) (number : ℕ) (kept : PeerKept) → IsPee
     → (i : ℕ) (k : WriterKept) → slice_get kept.writers i ≡ Some k → k.max_value ≤ 65000
 value_limited config number kept is i k at =
     let c = configured config number kept is i k at in
-    subst (λ (m : ℕ). m ≤ 65000) (sym c.is.max_value) (limited config.peers is.checked _ is.own is.at.1 i c.end c.at)
+    subst (λ (m : ℕ). m ≤ 65000) (sym c.is.max_value) (limited config.peers is.roster _ is.own is.at.1 i c.end c.at)

@@ -57,6 +57,7 @@ looked c kept i k reply seen config peer s at is =
         writers_are = rs.writers_are;
         places = rs.places;
         knows = rs.knows;
+        others = rs.others;
         qos_is = rs.qos_is;
         holds = rs.holds;
         seen_is = refl;

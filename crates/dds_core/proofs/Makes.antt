@@ -27,7 +27,6 @@ use Rattle.dds_protocol.specs.Peer.{Peer}
 use Rattle.dds_protocol.specs.DueMessages.{AreSent, changes_due}
 use Rattle.dds_protocol.proofs.OwnGuids.{one_writer}
 use Rattle.dds_protocol.specs.Contact.{Contact}
-use Rattle.dds_protocol.proofs.Rosters.{configs_are_rosters}
 use Rattle.dds_ends.specs.declared.matching.Destination.{Destination}
 use Rattle.dds_ends.specs.declared.sending.Sender.{Sender}
 use Rattle.dds_ends.specs.Kept.{WriterKept}
@@ -180,7 +179,7 @@ made_there old i k k' kind key value strength number output config peer s at ent
     (subst (λ (x : Change). AreSent (changes_due config endpoint w.matched number x) output.packets output.unsent)
     (sym means) due))) in
     let only : IsOnly config sender endpoint =
-    λ e name. one_writer config old.prefix k'.entity e endpoint (configs_are_rosters config s.is_peer.checked) name own.from
+    λ e name. one_writer config old.prefix k'.entity e endpoint s.is_peer.roster name own.from
     in
     let count = s.writers.count in
     let within : i < length peer.part.rtps.writers =

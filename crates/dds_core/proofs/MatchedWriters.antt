@@ -32,6 +32,7 @@ use Rattle.dds_ends.specs.Standing.{IsFirstRow, ReaderStands}
 use Rattle.dds_core.specs.Standing.{StandsFor}
 use Rattle.dds_core.proofs.CallSteps.{Follows, answered_as, number_is, refused_call, there_is}
 use Rattle.dds_core.proofs.Ends.{own_reader_changed, own_reader_stepped, with_read, with_reader}
+use Rattle.dds_core.proofs.KnownWriters.{not_known}
 use Rattle.dds_ends.proofs.Lists.{get-map, get-within, set_back}
 use Rattle.dds_ends.proofs.Parting.{IsMatchedSo, first_among, known_there}
 use Rattle.dds_ends.proofs.Rows.{handle_is, no_row, proxied, writers_of}
@@ -76,19 +77,6 @@ nobody_known : (kept : PeerKept) (config : Config) (peer : Peer) (reader : ℕ) 
 nobody_known kept config peer reader writer s none =
     ap (λ (rows : List WriterProxy). is_known rows writer)
     (no_rows peer.part.rtps.readers reader (length kept.readers) s.readers.rows none)
-
--- no row of the reader is of the writer
-not_known : (rows : List WriterProxy) (names : List WriterName) (writer : Endpoint)
-    → proxied rows ≡ writers_of names
-    → ((j : ℕ) (n : WriterName) → slice_get names j ≡ Some n → n.writer ≡ writer → ⊥)
-    → is_known rows writer ≡ false
-not_known rows names writer same none =
-    ap (λ (o : Option WriterProxy). is_some o)
-    (no_row (λ (p : WriterProxy). p.writer) rows writer
-    (λ j there.
-    let at = subst (λ (es : List Endpoint). slice_get es j ≡ Some writer) same there in
-    let f = get-map (λ (n : WriterName). n.writer) names j writer at in
-    none j f.0 f.1 f.2))
 
 -- ---- the reader of an index, which is told of the writer of a row
 

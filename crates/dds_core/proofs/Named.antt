@@ -1,25 +1,19 @@
 -- Whom a submessage names, by the rows of a reader and by the configuration.
-use Rattle.std.proofs.Common.{◌≡◌, ℕ, zero, suc, ◌+◌, ◌-◌, ◌<◌, List, Some, slice_get, refl, ap, sym, ◌∙◌, arith, inl, inr, ⊎_elim}
+use Rattle.std.proofs.Common.{◌≡◌, ℕ, zero, suc, ◌+◌, ◌<◌, List, Some, slice_get, refl, ap, sym, ◌∙◌, arith}
 use Rattle.dds_base.specs.declared.config.Config.{Config}
-use Rattle.dds_base.specs.declared.config.PeerConfig.{PeerConfig}
-use Rattle.dds_base.specs.declared.config.WriterConfig.{WriterConfig}
-use Rattle.dds_base.specs.declared.config.ReaderConfig.{ReaderConfig}
 use Rattle.dds_base.specs.declared.guid.EntityId.{EntityId}
 use Rattle.dds_base.specs.declared.guid.Guid.{Guid}
-use Rattle.dds_base.specs.Matched.{same_topic, any_writer}
 use Rattle.dds_base.specs.declared.endpoint.Endpoint.{Endpoint}
 use Rattle.dds_protocol.specs.Claims.{Receiver, IsWriter, IsReader, IsToReader}
 use Rattle.dds_protocol.specs.Peer.{Peer}
 use Rattle.dds_ends.specs.declared.matching.WriterName.{WriterName}
 use Rattle.dds_ends.specs.Kept.{ReaderKept}
 use Rattle.dds_core.specs.Kept.{PeerKept}
-use Rattle.dds_ends.specs.EndNames.{writer_name}
 use Rattle.dds_ends.specs.Readiness.{IsFirstName, IsNamedFor, writer_guid}
 use Rattle.dds_ends.specs.Standing.{IsFirstRow}
 use Rattle.dds_core.specs.Standing.{StandsFor}
-use Rattle.dds_core.proofs.Names.{IsWriterNamed, one_guid, guid_as, IsOwnReader, own_reader_is}
-use Rattle.dds_ends.proofs.Numbered.{same_end}
-use Rattle.dds_ends.proofs.Named.{told}
+use Rattle.dds_ends.specs.MatchedEnds.{IsWriterNamed}
+use Rattle.dds_core.proofs.Names.{one_guid, IsOwnReader, own_reader_is}
 
 -- ---- from a row to the configuration
 
@@ -47,7 +41,7 @@ abbrev pub is_to : (config : Config) (peer : Peer) (kept : PeerKept) (s : Stands
 is_to config peer kept s i k at_k at reader_id writer_id n here =
     let own : IsOwnReader config s.is_peer.own i k = own_reader_is config peer.number kept s.is_peer i k at_k in
     let name : WriterName = here.first.name in
-    let named : IsWriterNamed config own.end.topic name = own.names n name here.first.at in
+    let named : IsWriterNamed config.peers own.end.topic name = own.names n name here.first.at in
     let from : IsWriter config at.source_guid_prefix writer_id name.writer = record {
       peer = named.peer;
       at_peer = named.at_peer;
@@ -73,10 +67,10 @@ is_to config peer kept s i k at_k at reader_id writer_id n here =
       matched = named.same_topic;
     }
 
--- ---- from the configuration to a row
+-- ---- from a name to a row
 
 -- of a name that stands in a list one stands first
-first_name : (names : List WriterName) (guid : Guid) (j : ℕ) (name : WriterName) → slice_get names j ≡ Some name
+pub first_name : (names : List WriterName) (guid : Guid) (j : ℕ) (name : WriterName) → slice_get names j ≡ Some name
     → name.guid ≡ guid → ((k : ℕ) → IsFirstName names guid k → ⊥) → ⊥
 first_name names guid j name at is none = least j (λ i lt x at_x e. omega (arith, lt))
   where
@@ -101,27 +95,3 @@ first_name names guid j name at is none = least j (λ i lt x at_x e. omega (arit
           first = λ h y low at_y f. before h
               (omega (arith, lt, low)) y at_y f;
         }))
-
--- a writer that is matched with the reader has a row
-pub row_of_writer : (config : Config) (peer : Peer) (kept : PeerKept) (s : StandsFor kept config peer) (i : ℕ)
-    (k : ReaderKept) → slice_get kept.readers i ≡ Some k
-    → (at : Receiver) (reader_id writer_id : EntityId) (w : Endpoint)
-    → IsToReader config kept.prefix at reader_id writer_id w (record { peer = peer.number; number = suc i })
-    → ((n : ℕ) → IsNamedFor kept.prefix k at reader_id writer_id n → ⊥) → ⊥
-row_of_writer config peer kept s i k at_k at reader_id writer_id w to none =
-    let own : IsOwnReader config s.is_peer.own i k = own_reader_is config peer.number kept s.is_peer i k at_k in
-    let same =
-    same_end (λ (p : PeerConfig). p.readers) config.peers (record { peer = peer.number; number = suc i }) to.to.peer
-    s.is_peer.own to.to.end own.end to.to.at_peer s.is_peer.at to.to.at_reader own.at in
-    let entity : to.entity ≡ k.entity =
-    sym to.to.same_entity ∙ (ap (λ (x : ReaderConfig). x.entity) same.1 ∙ own.entity) in
-    let topic : to.from.end.topic ≡ own.end.topic = to.matched ∙ ap (λ (x : ReaderConfig). x.topic) same.1 in
-    let there =
-    told (λ (p : PeerConfig). p.writers) any_writer (λ (x : WriterConfig). x.topic) writer_name own.end.topic 1 config.peers
-    (w.peer - 1) to.from.peer (w.number - 1) to.from.end to.from.at_peer.1 to.from.at_writer.1 refl topic in
-    let here : slice_get k.writers there.0 ≡ Some _ =
-    ap (λ (xs : List WriterName). slice_get xs there.0) own.all ∙ there.1 in
-    first_name k.writers (writer_guid at writer_id) there.0 _ here
-    (guid_as _ (writer_guid at writer_id) to.from.same_prefix to.from.same_entity)
-    (λ n f. none n
-    (record { is_for = to.is_for; named = ⊎_elim (λ e. inl (e ∙ entity)) (λ u. inr u) to.named; first = f }))

@@ -6,16 +6,24 @@ use Rattle.dds_base.specs.declared.config.PeerConfig.{PeerConfig}
 use Rattle.dds_base.specs.declared.config.WriterConfig.{WriterConfig}
 use Rattle.dds_base.specs.declared.config.ReaderConfig.{ReaderConfig}
 use Rattle.dds_base.specs.Checked.{check_refusal}
+use Rattle.dds_base.specs.Matched.{any_reader, any_writer}
 use Rattle.dds_conditions.specs.Watched.{Watched, opened}
-use Rattle.dds_machine.specs.Opening.{opening_reader, opening_writer, matched_writers, opening_part}
+use Rattle.dds_machine.specs.Opening.{opening_reader, opening_writer, matched_writers, opening_part, reader_names as all_readers, writer_names as all_writers}
 use Rattle.dds_protocol.specs.Opening.{opening_peers}
-use Rattle.dds_machine.specs.Part.{Writer, Reader, WriterProxy, no_writer, no_reader}
+use Rattle.dds_machine.specs.Part.{Names, Writer, Reader, WriterProxy, no_writer, no_reader}
 use Rattle.rtps_reader.specs.Tracked.{fresh}
 use Rattle.dds_protocol.specs.Contact.{no_contact}
 use Rattle.dds_protocol.specs.Protocol.{knows_nothing}
 use Rattle.dds_protocol.specs.Peer.{Peer, no_peer}
+use Rattle.dds_protocol.proofs.Rosters.{configs_are_rosters}
 use Rattle.dds_ends.specs.Kept.{WriterKept, ReaderKept}
-use Rattle.dds_ends.specs.Identity.{WriterIdentity, writer_identity, reader_identity, configured_writer, configured_reader, IsWriterOf}
+use Rattle.dds_ends.specs.declared.matching.TopicName.{TopicName}
+use Rattle.dds_ends.specs.declared.matching.WriterName.{WriterName}
+use Rattle.dds_ends.specs.EndNames.{topic_name, topic_names, writer_name, writer_names}
+use Rattle.dds_ends.specs.Identity.{ReaderIdentity, WriterIdentity, writer_identity, reader_identity, configured_writer, configured_reader, IsConfiguredReader, IsWriterOf}
+use Rattle.dds_ends.specs.MatchedEnds.{AreKnownReaders, AreKnownWriters, IsKnownReader, IsWriterNamed}
+use Rattle.dds_core.specs.Identity.{AreRowsOnce}
+use Rattle.dds_core.specs.Kept.{PeerKept}
 use Rattle.dds_core.specs.Opening.{opening_peer}
 use Rattle.dds_ends.specs.OpeningEnds.{OpensWriter, OpensReader}
 use Rattle.dds_core.specs.OpeningEnds.{OpensEach, OpensCore}
@@ -23,6 +31,8 @@ use Rattle.dds_ends.specs.Standing.{WriterStands, ReaderStands, WritersStand, Re
 use Rattle.dds_core.specs.Standing.{StandsFor}
 use Rattle.dds_ends.proofs.Lists.{get-map}
 use Rattle.dds_ends.proofs.MatchedAt.{ends_opened}
+use Rattle.dds_ends.proofs.Numbered.{is_told}
+use Rattle.dds_ends.proofs.Once.{writers_once}
 use Rattle.dds_ends.proofs.Alike.{last-cases, partner}
 use Rattle.dds_core.proofs.Tellable.{tellable_opening}
 
@@ -80,17 +90,6 @@ opens_as configs kept as_well h = record {
 }
 
 -- ---- all of them
-
--- what looks alike, one by one, looks alike as a list
-same_maps : {X Y Z : Type 0} (f : X → Z) (g : Y → Z) (xs : List X) (ys : List Y) → length ys ≡ length xs
-    → Pairs (λ x y. g y ≡ f x) xs ys → map g ys ≡ map f xs
-same_maps f g [] [] count each = refl
-same_maps f g [] (y ∷ ys) count each = absurd (omega (arith, count))
-same_maps f g (x ∷ xs) [] count each = absurd (omega (arith, count))
-same_maps f g (x ∷ xs) (y ∷ ys) count each =
-    ap (λ z. z ∷ map g ys) (each 0 x y refl refl)
-    ∙ ap (λ zs. f x ∷ zs) (same_maps f g xs ys (omega (arith, count))
-    (λ i a b at_a at_b. each (suc i) a b at_a at_b))
 
 mapped_at : {X Z : Type 0} (f : X → Z) (xs : List X) (i : ℕ) (x : X) (d : Z) → slice_get xs i ≡ Some x
     → f x ≡ get_or (map f xs) i d
@@ -154,21 +153,83 @@ is_numbered : (peers : List PeerConfig) (index : ℕ) (own : PeerConfig) → sli
 is_numbered peers index own at =
     let same : index ≡ 1 + index - 1 = omega arith in subst (λ (k : ℕ). slice_get peers k ≡ Some own) same at
 
+-- the readers that a writer is opened with are those of its topic
+readers_opened : (peers : List PeerConfig) (topic : ℕ) → AreKnownReaders peers topic (topic_names topic peers)
+readers_opened peers topic i k at =
+    let f =
+    is_told peers (λ (p : PeerConfig). p.readers) any_reader (λ (r : ReaderConfig). r.topic) topic_name topic i k at in
+    subst (λ (x : TopicName). IsKnownReader peers topic x) f.told
+    (record {
+      name_is = record {
+        is = record {
+          peer = f.peer;
+          at_peer = f.at_peer;
+          end = f.end;
+          at_reader = f.at_end;
+          same_topic = f.same_topic;
+        };
+        same_prefix = refl;
+        same_entity = refl;
+      };
+      as_reliable = refl;
+    })
+
+-- the writers that a reader is opened with are those of its topic
+writers_opened : (peers : List PeerConfig) (topic : ℕ) → AreKnownWriters peers topic (writer_names topic peers)
+writers_opened peers topic i n at =
+    let f =
+    is_told peers (λ (p : PeerConfig). p.writers) any_writer (λ (w : WriterConfig). w.topic) writer_name topic i n at in
+    subst (λ (x : WriterName). IsWriterNamed peers topic x) f.told
+    (record {
+      peer = f.peer;
+      at_peer = f.at_peer;
+      same_prefix = refl;
+      end = f.end;
+      at_end = f.at_end;
+      same_entity = refl;
+      same_topic = f.same_topic;
+    })
+
 -- a writer at its opening is one of the configuration
 opened_is : (peers : List PeerConfig) (w : WriterConfig) → IsWriterOf peers w (configured_writer peers w)
-opened_is peers w =
-    record { entity = refl; autodispose = refl; max_value = refl; known = refl; ends = ends_opened peers w.topic }
+opened_is peers w = record {
+  entity = refl;
+  autodispose = refl;
+  max_value = refl;
+  known = readers_opened peers w.topic;
+  ends = ends_opened peers w.topic;
+}
+
+-- a reader at its opening is one of the configuration
+opened_reader_is : (peers : List PeerConfig) (r : ReaderConfig) → IsConfiguredReader peers r (configured_reader peers r)
+opened_reader_is peers r =
+    record { entity = refl; reliable = refl; writers = writers_opened peers r.topic }
+
+-- the names of all ends
+abbrev pub all_named : List PeerConfig → Names
+all_named peers = record { writers = all_writers 1 peers; readers = all_readers 1 peers }
+
+-- a peer of this configuration that keeps these
+abbrev pub opened_as : PeerConfig → ℕ → List WriterKept → List ReaderKept → Names → Watched → PeerKept
+opened_as own moment writers readers names watch = record {
+  prefix = own.prefix;
+  moment = moment;
+  writers = writers;
+  readers = readers;
+  names = names;
+  watch = watch;
+}
 
 stands_begun : (peers : List PeerConfig) (index moment : ℕ) (own : PeerConfig) (writers : List WriterKept)
-    (readers : List ReaderKept) (watch : Watched) → check_refusal peers ≡ None → slice_get peers index ≡ Some own
-    → moment ≡ 0
+    (readers : List ReaderKept) (names : Names) (watch : Watched) → check_refusal peers ≡ None
+    → slice_get peers index ≡ Some own
+    → moment ≡ 0 → names ≡ all_named peers
     → watch ≡ opened (length writers) (length readers)
     → OpensEach (OpensWriter peers) own.writers writers → OpensEach (OpensReader peers) own.readers readers
-    → StandsFor (record { prefix = own.prefix; moment = moment; writers = writers; readers = readers; watch = watch })
-    (record { peers = peers }) (begun peers own (1 + index))
-stands_begun peers index moment own writers readers watch checked at begins watches ws rs = record {
+    → StandsFor (opened_as own moment writers readers names watch) (record { peers = peers }) (begun peers own (1 + index))
+stands_begun peers index moment own writers readers names watch checked at begins named watches ws rs = record {
   is_peer = record {
-    checked = checked;
+    roster = configs_are_rosters (record { peers = peers }) checked;
     own = own;
     at = (omega arith, is_numbered peers index own at);
     prefix = refl;
@@ -177,14 +238,22 @@ stands_begun peers index moment own writers readers watch checked at begins watc
         let f = get-map writer_identity writers i x at_x in
         subst (λ (y : WriterIdentity). IsWriterOf peers w y) (sym (ws.each i w f.0 at_w f.1).identity ∙ f.2)
         (opened_is peers w);
-    readers =
-        same_maps (configured_reader peers) reader_identity own.readers readers rs.count
-        (λ i r k at_r at_k. (rs.each i r k at_r at_k).identity);
+    reader_count = length-map readers reader_identity ∙ rs.count;
+    readers = λ i r x at_r at_x.
+        let f = get-map reader_identity readers i x at_x in
+        subst (λ (y : ReaderIdentity). IsConfiguredReader peers r y) (sym (rs.each i r f.0 at_r f.1).identity ∙ f.2)
+        (opened_reader_is peers r);
+    once = λ i x at_x.
+        let f = get-map reader_identity readers i x at_x in
+        let r = partner own.readers readers i f.0 rs.count f.1 in
+        subst (λ (y : ReaderIdentity). AreRowsOnce y.writers) (sym (rs.each i r.0 f.0 r.1 f.1).identity ∙ f.2)
+        (writers_once r.0.topic peers);
   };
   moment = sym begins;
   early = subst (λ (m : ℕ). m < 2 ^ 63) (sym begins) (omega arith);
   writers = writers_stand peers own.writers writers ws;
   readers = readers_stand peers own.readers readers rs;
+  names = sym named;
   tellable = tellable_opening peers own;
   watch =
       sym (watches ∙ (ap (λ (n : ℕ). opened n (length readers)) ws.count
@@ -192,16 +261,14 @@ stands_begun peers index moment own writers readers watch checked at begins watc
 }
 
 pub opens_core : (peers : List PeerConfig) (index moment : ℕ) (own : PeerConfig) (writers : List WriterKept)
-    (readers : List ReaderKept) (watch : Watched) → index < length peers → check_refusal peers ≡ None
-    → own ≡ get_or peers index own → moment ≡ 0
+    (readers : List ReaderKept) (names : Names) (watch : Watched) → index < length peers → check_refusal peers ≡ None
+    → own ≡ get_or peers index own → moment ≡ 0 → names ≡ all_named peers
     → watch ≡ opened (length writers) (length readers) → OpensEach (OpensWriter peers) own.writers writers
     → OpensEach (OpensReader peers) own.readers readers
-    → OpensCore peers index
-    (record { prefix = own.prefix; moment = moment; writers = writers; readers = readers; watch = watch })
-opens_core peers index moment own writers readers watch within checked is begins watches ws rs =
+    → OpensCore peers index (opened_as own moment writers readers names watch)
+opens_core peers index moment own writers readers names watch within checked is begins named watches ws rs =
     let at : slice_get peers index ≡ Some own =
     slice_get-get_or peers index own within ∙ ap (λ (p : PeerConfig). Some p) (sym is) in
-    subst (λ (p : Peer). StandsFor
-    (record { prefix = own.prefix; moment = moment; writers = writers; readers = readers; watch = watch })
-    (record { peers = peers }) p) (opening_is peers index own at)
-    (stands_begun peers index moment own writers readers watch checked at begins watches ws rs)
+    subst (λ (p : Peer). StandsFor (opened_as own moment writers readers names watch) (record { peers = peers }) p)
+    (opening_is peers index own at)
+    (stands_begun peers index moment own writers readers names watch checked at begins named watches ws rs)

@@ -21,7 +21,9 @@ use Rattle.dds_protocol.specs.Peer.{Peer}
 use Rattle.dds_protocol.specs.Contact.{Contact}
 use Rattle.dds_protocol.specs.Protocol.{Known, with_answered}
 use Rattle.dds_ends.specs.Coming.{Joins, Leaves, LooksAtMatches, RefusesSo, joining_refusal, leaving_refusal, matched_anew}
+use Rattle.dds_ends.specs.declared.matching.TopicName.{TopicName}
 use Rattle.dds_ends.specs.Identity.{IsWriterOf, WriterIdentity, writer_identity}
+use Rattle.dds_ends.specs.MatchedEnds.{AreKnownReaders}
 use Rattle.dds_core.specs.Identity.{IsPeerOf, identity_of}
 use Rattle.dds_ends.specs.Kept.{WriterKept}
 use Rattle.dds_core.specs.Kept.{PeerKept}
@@ -52,7 +54,7 @@ peer_of_writer : (kept : PeerKept) (i : ℕ) (k k' : WriterKept) (config : Confi
     → IsWriterOf config.peers w (writer_identity k'))
     → IsPeerOf config number (identity_of kept) → IsPeerOf config number (identity_of (with_writer kept i k'))
 peer_of_writer kept i k k' config number at still is = record {
-  checked = is.checked;
+  roster = is.roster;
   own = is.own;
   at = is.at;
   prefix = is.prefix;
@@ -70,7 +72,9 @@ peer_of_writer kept i k k' config number at still is = record {
       is.writers j w x at_w
       (map-get writer_identity kept.writers j f.0 there ∙ ap (λ (y : WriterIdentity). Some y) f.2))
       (put_or_there kept.writers i j k' f.0 f.1);
+  reader_count = is.reader_count;
   readers = is.readers;
+  once = is.once;
 }
 
 -- ---- the end of that number
@@ -116,7 +120,7 @@ joins kept i k k' reader greeted config peer s at accepted j =
             entity = j.same.entity ∙ is.entity;
             autodispose = j.same.autodispose ∙ is.autodispose;
             max_value = j.same.max_value ∙ is.max_value;
-            known = j.same.known ∙ is.known;
+            known = subst (λ (ks : List TopicName). AreKnownReaders config.peers c.topic ks) (sym j.same.known) is.known;
             ends = j.ends config.peers c.topic is.known is.ends;
           }) (joined w reader (knows_reliable w reader)) known.answered
           (writer_stands_on k' (joined w reader (knows_reliable w reader))
@@ -200,7 +204,7 @@ leaves kept i k k' reader config peer s at accepted l =
             entity = l.same.entity ∙ is.entity;
             autodispose = l.same.autodispose ∙ is.autodispose;
             max_value = l.same.max_value ∙ is.max_value;
-            known = l.same.known ∙ is.known;
+            known = subst (λ (ks : List TopicName). AreKnownReaders config.peers c.topic ks) (sym l.same.known) is.known;
             ends = l.ends config.peers c.topic is.ends;
           }) (left w reader) peer.known.answered (l.stands w (peer.known.answered (suc i)) stands)
           (λ j apart e. refl) refl,

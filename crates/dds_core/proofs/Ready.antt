@@ -33,7 +33,7 @@ use Rattle.dds_ends.specs.Readiness.{IsNamedAt, IsFirstName, IsRowOf, IsPrepared
 use Rattle.dds_core.specs.Readiness.{IsFirstNamed, AreReady, AreAlike, moves_of, IsBounded}
 use Rattle.dds_core.specs.Receiving.{AllCanTake, TookAt, TakesAll, ReadersTake, StandsAsWell}
 use Rattle.dds_core.proofs.TakenSoFar.{TakesSome}
-use Rattle.dds_ends.specs.Standing.{IsFirstRow, ReaderStands, stood_as}
+use Rattle.dds_ends.specs.Standing.{HasNoRow, IsFirstRow, ReaderStands, stood_as}
 use Rattle.dds_ends.proofs.Identities.{same_identity}
 use Rattle.dds_ends.proofs.Lists.{get-within, left_at, left_more, drop_set}
 use Rattle.dds_ends.proofs.Rows.{writers_of}
@@ -249,6 +249,7 @@ alike_stands a b proxies r tracked h s = record {
   places = s.places;
   knows =
       λ w k f. h.reader k (tracked w) (s.knows w k (subst (λ (ns : List WriterName). IsFirstRow ns w k) h.writers f));
+  others = λ w none. s.others w (subst (λ (ns : List WriterName). HasNoRow ns w) h.writers none);
   qos_is = s.qos_is ∙ sym h.qos;
   holds = h.holds r.happened s.holds;
   seen_is = s.seen_is ∙ sym h.seen;
@@ -284,6 +285,7 @@ alike_core kept readers h config peer s =
           (sym (ap identity (same_identities kept.readers readers h))) s.is_peer;
       moment = s.moment;
       early = s.early;
+      names = s.names;
       watch = s.watch;
       writers = s.writers;
       readers = record {

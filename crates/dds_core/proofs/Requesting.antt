@@ -17,7 +17,6 @@ use Rattle.dds_protocol.specs.Peer.{Peer, state_of}
 use Rattle.dds_protocol.specs.DueMessages.{Due}
 use Rattle.dds_protocol.specs.Protocol.{State, InTurn, WriterTakes}
 use Rattle.dds_protocol.proofs.OwnGuids.{one_writer}
-use Rattle.dds_protocol.proofs.Rosters.{configs_are_rosters}
 use Rattle.dds_ends.specs.declared.answering.Room.{Room}
 use Rattle.dds_ends.specs.declared.matching.ReaderName.{ReaderName}
 use Rattle.dds_core.specs.declared.effects.Effects.{Effects}
@@ -299,7 +298,7 @@ writer_takes old new index a k rooms at effects moves after same at_k entity are
             (record { peer = peer.number; number = n }) e) (one_on j) to_it in
             let one =
             one_writer config old.prefix a.writer_id (own_end peer j)
-            (own_end peer index) (configs_are_rosters config stands.is_peer.checked) to.to
+            (own_end peer index) stands.is_peer.roster to.to
             (record {
               peer = o.own.from.peer;
               at_peer = o.own.from.at_peer;

@@ -31,7 +31,6 @@ use Rattle.dds_core.specs.Resuming.{HasRow, ResumesAll, RowNeedsMemory, SameRows
 use Rattle.dds_ends.specs.Standing.{IsFirstRow, stood_as}
 use Rattle.dds_core.specs.Standing.{StandsFor}
 use Rattle.dds_core.proofs.Ends.{with_reader}
-use Rattle.dds_ends.proofs.Once.{writers_once}
 use Rattle.dds_ends.proofs.Idle.{idle_step, waits_still}
 use Rattle.dds_core.proofs.LastReader.{here_now}
 use Rattle.dds_ends.proofs.Lists.{drop_end, drop_next, element, get-map, get-within, map-get, set_back}
@@ -55,12 +54,7 @@ first_there config peer kept s i row k at_k name at =
       name = name;
       at = at;
       is = refl;
-      first = λ j x lt at_x same.
-          let one : j ≡ row =
-          writers_once own.end.topic config.peers j row x name
-          (ap (λ (ns : List WriterName). slice_get ns j) (sym own.all) ∙ at_x)
-          (ap (λ (ns : List WriterName). slice_get ns row) (sym own.all) ∙ at) same in
-          omega (arith, lt, one);
+      first = λ j x lt at_x same. let one : j ≡ row = own.once j row x name at_x at same in omega (arith, lt, one);
     }
 
 -- the reader of an index, and the writer of a row there

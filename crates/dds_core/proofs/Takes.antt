@@ -11,7 +11,7 @@ use Rattle.dds_base.specs.declared.happening.Happening.TheVariants.{Heard as Was
 use Rattle.dds_base.specs.declared.qos.ReaderQos.{ReaderQos}
 use Rattle.dds_base.specs.Places.{Match}
 use Rattle.dds_cache.specs.Standing.{qos_of}
-use Rattle.rtps_reader.specs.Tracked.{Tracked}
+use Rattle.rtps_reader.specs.Tracked.{Tracked, fresh}
 use Rattle.rtps_reader.specs.Answer.{heard_after}
 use Rattle.rtps_reader.specs.Reader.{Tracks, OthersStay, OthersStand, how_at, match_at}
 use Rattle.dds_base.specs.declared.endpoint.Endpoint.{Endpoint}
@@ -34,7 +34,7 @@ use Rattle.dds_core.specs.Kept.{PeerKept}
 use Rattle.dds_ends.specs.Identity.{reader_identity}
 use Rattle.dds_ends.specs.Readiness.{SameReader}
 use Rattle.dds_core.specs.Receiving.{with_state}
-use Rattle.dds_ends.specs.Standing.{IsFirstRow, ReaderStands, stood_as}
+use Rattle.dds_ends.specs.Standing.{HasNoRow, IsFirstRow, ReaderStands, stood_as}
 use Rattle.dds_core.specs.Standing.{StandsFor}
 use Rattle.dds_ends.specs.Storing.{Holds}
 use Rattle.dds_ends.proofs.Attachments.{count_kept, count_set, one_if}
@@ -154,6 +154,7 @@ stage_ends c k' how t rows happened s g a =
           g.writers ∙ ((stood c).writers_are ∙ ap (λ (ns : List WriterName). writers_of ns) (sym a.same.writers));
       places = λ w p at. by_place w p at (pair_or_not w (suc c.i) c.writer (suc c.i));
       knows = λ w j f. by_row w j f (pair_or_not w (suc c.i) c.writer (suc c.i));
+      others = λ w none. of_none w (subst (λ (ns : List WriterName). HasNoRow ns w) a.same.writers none);
       qos_is = (stood c).qos_is ∙ sym a.same.qos;
       holds = a.holds;
       seen_is = (stood c).seen_is ∙ sym a.same.seen;
@@ -202,6 +203,10 @@ stage_ends c k' how t rows happened s g a =
         subst (λ (x : Tracked). Tracks k'.reader j x) (sym (g.others w (suc c.i) n))
         (a.others j (c.peer.known.tracked w (suc c.i)) (λ e. n (other_row w j before e, refl))
         ((stood c).knows w j before))
+
+    of_none : (w : Endpoint) → HasNoRow c.k.writers w → s.known.tracked w (suc c.i) ≡ fresh
+    of_none w none =
+        g.others w (suc c.i) (λ e. none c.row c.first.name c.first.at (c.first.is ∙ sym e.0)) ∙ (stood c).others w none
 
     by_how : (w : Endpoint) (j : ℕ) → IsFirstRow k'.writers w j
         → ((w ≡ c.writer) × (suc c.i ≡ suc c.i)) ⊎ ((w ≡ c.writer) × (suc c.i ≡ suc c.i) → ⊥)

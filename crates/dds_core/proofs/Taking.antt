@@ -70,6 +70,7 @@ stands_beside kept new watched places delivered config peer same s = record {
   is_peer = s.is_peer;
   moment = s.moment;
   early = s.early;
+  names = s.names;
   writers = s.writers;
   readers = s.readers;
   tellable = s.tellable;

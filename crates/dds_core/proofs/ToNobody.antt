@@ -1,5 +1,5 @@
 -- Whether a submessage concerns somebody at a peer: by the rows that the peer keeps, and by the configuration.
-use Rattle.std.proofs.Common.{◌≡◌, ℕ, suc, ◌+◌, ◌-◌, List, Some, None, Option, true, false, map, get_or, slice_get, subst, sym, ◌∙◌, refl, inl, inr, arith}
+use Rattle.std.proofs.Common.{◌≡◌, ℕ, suc, ◌+◌, ◌-◌, List, Some, None, Option, Bool, true, false, map, get_or, slice_get, subst, sym, ◌∙◌, refl, inl, inr, arith}
 use Rattle.std.specs.Prelude.{IsSome}
 use Rattle.std.proofs.lemmas.List.{length-map}
 use Rattle.std.proofs.lemmas.Option.{same_Some}
@@ -17,15 +17,17 @@ use Rattle.dds_machine.specs.Part.{ReaderProxy, Writer, acknowledged_of, no_writ
 use Rattle.dds_protocol.specs.Claims.{Receiver, is_for, IsNumbered, IsToReader, IsToWriter}
 use Rattle.dds_protocol.specs.Peer.{Peer}
 use Rattle.dds_ends.specs.declared.matching.ReaderName.{ReaderName}
-use Rattle.dds_ends.specs.Identity.{ReaderIdentity, reader_identity, writer_identity, configured_reader}
+use Rattle.dds_ends.specs.declared.matching.WriterName.{WriterName}
+use Rattle.dds_ends.specs.Identity.{reader_identity, writer_identity}
 use Rattle.dds_ends.specs.Kept.{ReaderKept, WriterKept}
 use Rattle.dds_core.specs.Kept.{PeerKept}
-use Rattle.dds_core.specs.Observing.{ConcernsPeer, speaks}
+use Rattle.dds_core.specs.Observing.{ConcernsPeer, IsToKnowing, knows_writer, speaks}
 use Rattle.dds_core.specs.ObservingKept.{IsNamedReader, NamesNoReader, IsNamedWriter, NamesNoWriter, ToNobodyOf}
 use Rattle.dds_ends.specs.Readiness.{NamedBy, NamesNobody}
 use Rattle.dds_core.specs.Standing.{StandsFor}
-use Rattle.dds_ends.proofs.Lists.{element, get-map, get-within, map-get}
-use Rattle.dds_core.proofs.Named.{is_to, row_of_writer}
+use Rattle.dds_ends.proofs.Lists.{element, get-within, map-get}
+use Rattle.dds_core.proofs.KnownWriters.{has_none, row_known, unknown_there}
+use Rattle.dds_core.proofs.Named.{is_to}
 use Rattle.dds_core.proofs.Pairs.{not_among, some_row}
 use Rattle.dds_core.proofs.RowsAnswered.{IsOwn, own_is, own_end, to_writer, from_reader}
 
@@ -37,71 +39,50 @@ speaks_named (Gap g) r w by = refl
 speaks_named (Heartbeat h) r w by = refl
 speaks_named s r w by = absurd by
 
+-- whom a submessage of a writer concerns, by the ids that it names
 concerns_named : (config : Config) (own : GuidPrefix) (peer : Peer) (at : Receiver) (s : Submessage) (r w : EntityId)
-    → NamedBy s r w → (writer reader : Endpoint) → IsToReader config own at r w writer reader
-    → reader.peer ≡ peer.number → ConcernsPeer config own peer at s
-concerns_named config own peer at (Data d) r w by writer reader to is = (
-  writer,
-  reader,
-  subst (λ (x : EntityId). IsToReader config own at x d.writer_id writer reader) by.0
-      (subst (λ (x : EntityId). IsToReader config own at r x writer reader) by.1 to),
-  is,
-)
-concerns_named config own peer at (Gap d) r w by writer reader to is = (
-  writer,
-  reader,
-  subst (λ (x : EntityId). IsToReader config own at x d.writer_id writer reader) by.0
-      (subst (λ (x : EntityId). IsToReader config own at r x writer reader) by.1 to),
-  is,
-)
-concerns_named config own peer at (Heartbeat d) r w by writer reader to is = (
-  writer,
-  reader,
-  subst (λ (x : EntityId). IsToReader config own at x d.writer_id writer reader) by.0
-      (subst (λ (x : EntityId). IsToReader config own at r x writer reader) by.1 to),
-  is,
-)
-concerns_named config own peer at s r w by writer reader to is = absurd by
-
--- a reader that a submessage of a writer concerns
-abbrev HasReader : Config → GuidPrefix → Peer → Receiver → EntityId → EntityId → Type 0
-HasReader config own peer at r w =
-    (writer : Endpoint) × (reader : Endpoint) × IsToReader config own at r w writer reader × (reader.peer ≡ peer.number)
+    → NamedBy s r w → IsToKnowing config own peer at r w → ConcernsPeer config own peer at s
+concerns_named config own peer at (Data d) r w by to =
+    subst (λ (x : EntityId). IsToKnowing config own peer at x d.writer_id) by.0
+    (subst (λ (x : EntityId). IsToKnowing config own peer at r x) by.1 to)
+concerns_named config own peer at (Gap d) r w by to =
+    subst (λ (x : EntityId). IsToKnowing config own peer at x d.writer_id) by.0
+    (subst (λ (x : EntityId). IsToKnowing config own peer at r x) by.1 to)
+concerns_named config own peer at (Heartbeat d) r w by to =
+    subst (λ (x : EntityId). IsToKnowing config own peer at x d.writer_id) by.0
+    (subst (λ (x : EntityId). IsToKnowing config own peer at r x) by.1 to)
+concerns_named config own peer at s r w by to = absurd by
 
 named_concerns : (config : Config) (own : GuidPrefix) (peer : Peer) (at : Receiver) (s : Submessage) (r w : EntityId)
-    → NamedBy s r w → ConcernsPeer config own peer at s → HasReader config own peer at r w
-named_concerns config own peer at (Data d) r w by c = (
-  c.0,
-  c.1,
-  subst (λ (x : EntityId). IsToReader config own at x w c.0 c.1) (sym by.0)
-      (subst (λ (x : EntityId). IsToReader config own at d.reader_id x c.0 c.1) (sym by.1) c.2),
-  c.3,
-)
-named_concerns config own peer at (Gap d) r w by c = (
-  c.0,
-  c.1,
-  subst (λ (x : EntityId). IsToReader config own at x w c.0 c.1) (sym by.0)
-      (subst (λ (x : EntityId). IsToReader config own at d.reader_id x c.0 c.1) (sym by.1) c.2),
-  c.3,
-)
-named_concerns config own peer at (Heartbeat d) r w by c = (
-  c.0,
-  c.1,
-  subst (λ (x : EntityId). IsToReader config own at x w c.0 c.1) (sym by.0)
-      (subst (λ (x : EntityId). IsToReader config own at d.reader_id x c.0 c.1) (sym by.1) c.2),
-  c.3,
-)
+    → NamedBy s r w → ConcernsPeer config own peer at s → IsToKnowing config own peer at r w
+named_concerns config own peer at (Data d) r w by c =
+    subst (λ (x : EntityId). IsToKnowing config own peer at x w) (sym by.0)
+    (subst (λ (x : EntityId). IsToKnowing config own peer at d.reader_id x) (sym by.1) c)
+named_concerns config own peer at (Gap d) r w by c =
+    subst (λ (x : EntityId). IsToKnowing config own peer at x w) (sym by.0)
+    (subst (λ (x : EntityId). IsToKnowing config own peer at d.reader_id x) (sym by.1) c)
+named_concerns config own peer at (Heartbeat d) r w by c =
+    subst (λ (x : EntityId). IsToKnowing config own peer at x w) (sym by.0)
+    (subst (λ (x : EntityId). IsToKnowing config own peer at d.reader_id x) (sym by.1) c)
 named_concerns config own peer at s r w by c = absurd by
+
+not_both : (b : Bool) → b ≡ true → b ≡ false → ⊥
+not_both b is none = cc
 
 -- it names a reader that the peer keeps
 pub somebody_named : (kept : PeerKept) (at : Receiver) (s : Submessage) (r w : EntityId) (index : ℕ) → NamedBy s r w
     → IsNamedReader kept.prefix at r w kept.readers index → ToNobodyOf kept at s 0
 somebody_named kept at s r w index by named config peer stands =
+    let name : WriterName = named.named.first.name in
     inr (
       refl,
-      inr (inr (concerns_named config kept.prefix peer at s r w by named.named.first.name.writer
-          (record { peer = peer.number; number = suc index })
-          (is_to config peer kept stands index named.reader named.there at r w named.row named.named) refl)),
+      inr (inr (concerns_named config kept.prefix peer at s r w by (
+        name.writer,
+        record { peer = peer.number; number = suc index },
+        is_to config peer kept stands index named.reader named.there at r w named.row named.named,
+        refl,
+        row_known config peer kept stands index named.reader named.there named.row name named.named.first.at,
+      ))),
     )
 
 -- the peer's own reader of a number, as it keeps it
@@ -112,12 +93,10 @@ own_reader config peer kept s number p end at_peer at_end =
     let same : p ≡ s.is_peer.own = same_Some p s.is_peer.own (sym at_peer.1 ∙ s.is_peer.at.1) in
     let there : slice_get s.is_peer.own.readers (number - 1) ≡ Some end =
     subst (λ (o : PeerConfig). slice_get o.readers (number - 1) ≡ Some end) same at_end.1 in
-    let found =
-    get-map reader_identity kept.readers (number - 1) (configured_reader config.peers end)
-    (subst (λ (xs : List ReaderIdentity). slice_get xs (number - 1) ≡ Some (configured_reader config.peers end))
-    (sym s.is_peer.readers)
-    (map-get (configured_reader config.peers) s.is_peer.own.readers (number - 1) end there)) in
-    (found.0, found.1)
+    let lt = get-within s.is_peer.own.readers (number - 1) end there in
+    let many = length-map kept.readers reader_identity in
+    let count = s.is_peer.reader_count in
+    element kept.readers (number - 1) (omega (arith, lt, many, count))
 
 -- it names none
 pub nobody_named : (kept : PeerKept) (at : Receiver) (s : Submessage) (r w : EntityId) → NamedBy s r w
@@ -128,7 +107,7 @@ nobody_named kept at s r w by here none config peer stands =
       speaks_named s r w by,
       here,
       λ c.
-          let h : HasReader config kept.prefix peer at r w = named_concerns config kept.prefix peer at s r w by c in
+          let h : IsToKnowing config kept.prefix peer at r w = named_concerns config kept.prefix peer at s r w by c in
           let to = h.2 in
           let number = h.1.number in
           let at_peer : IsNumbered config.peers peer.number to.to.peer =
@@ -140,8 +119,12 @@ nobody_named kept at s r w by here none config peer stands =
           (record { peer = peer.number; number = suc (number - 1) }) =
           subst (λ (m : ℕ). IsToReader config kept.prefix at r w h.0 (record { peer = peer.number; number = m })) next
           (subst (λ (m : ℕ). IsToReader config kept.prefix at r w h.0 (record { peer = m; number = number })) h.3 to) in
-          row_of_writer config peer kept stands (number - 1) k.0 k.1 at r w h.0 turned
-          (λ row named. none (number - 1) k.0 k.1 row named),
+          let unknown : knows_writer peer number h.0 ≡ false =
+          subst (λ (m : ℕ). knows_writer peer m h.0 ≡ false) (sym next)
+          (unknown_there config peer kept stands (number - 1) k.0 k.1 h.0
+          (has_none config peer kept stands (number - 1) k.0 k.1 at r w h.0 turned
+          (λ row named. none (number - 1) k.0 k.1 row named))) in
+          not_both (knows_writer peer number h.0) h.4 unknown,
     )
 
 -- ---- an ACKNACK

@@ -1,5 +1,5 @@
 -- The peer's readers take a submessage up, one after the other, by the rules of the protocol.
-use Rattle.std.proofs.Common.{◌≡◌, ℕ, zero, suc, ◌+◌, ◌<◌, ◌≤◌, Bool, true, false, List, [], ◌∷◌, ◌++◌, Option, Some, None, drop, length, slice_get, refl, ap, sym, ◌∙◌, subst, arith, inl, inr, append_assoc, nat_lt}
+use Rattle.std.proofs.Common.{◌≡◌, ℕ, zero, suc, ◌+◌, ◌<◌, ◌≤◌, Bool, true, false, List, [], ◌∷◌, ◌++◌, Option, Some, None, drop, length, slice_get, refl, ap, sym, ◌∙◌, subst, arith, inl, inr, ⊎_elim, append_assoc, nat_lt}
 use Rattle.std.specs.Prelude.{IfSome, nat_le, ◌&&◌, if◌then◌else◌}
 use Rattle.std.proofs.lemmas.Option.{same_Some}
 use Rattle.std.proofs.lemmas.List.{append-nil}
@@ -36,7 +36,8 @@ use Rattle.dds_machine.specs.declared.reply.Move.TheVariants.{Place}
 use Rattle.dds_protocol.specs.Claims.{Receiver, IsToReader, Names}
 use Rattle.dds_protocol.specs.Peer.{Peer, state_of}
 use Rattle.dds_protocol.specs.DueMessages.{Due, acknacks_due}
-use Rattle.dds_protocol.specs.Protocol.{State, InTurn, MayNeedMemory, heard_as, ReaderTakes, may_do, MeetsChange, MeetsGap, MeetsHeartbeat, stands_to}
+use Rattle.dds_protocol.specs.Protocol.{Idles, State, InTurn, MayNeedMemory, heard_as, ReaderTakes, may_do, MeetsChange, MeetsGap, MeetsHeartbeat, WhereMatched, stands_to}
+use Rattle.dds_protocol.proofs.Finding.{finds_writer}
 use Rattle.dds_core.specs.declared.delivery.FirstNamed.{FirstNamed}
 use Rattle.dds_ends.specs.declared.matching.WriterName.{WriterName}
 use Rattle.dds_core.specs.declared.effects.Effects.{Effects}
@@ -48,7 +49,7 @@ use Rattle.dds_ends.specs.Identity.{reliable_in}
 use Rattle.dds_ends.specs.Kept.{ReaderKept}
 use Rattle.dds_core.specs.Kept.{PeerKept}
 use Rattle.dds_core.proofs.Names.{own_reader_is}
-use Rattle.dds_ends.specs.Readiness.{IsReadyWith, IsReadyFor, IsNamedAt, IsUnnamed, NamedBy, IsToldBy, TellsSo, seen_in, writer_guid}
+use Rattle.dds_ends.specs.Readiness.{IsReadyWith, IsReadyFor, IsNamedAt, IsNamedFor, IsUnnamed, NamedBy, IsToldBy, TellsSo, seen_in, writer_guid}
 use Rattle.dds_core.specs.Readiness.{AreReady, IsFirstNamed, NamesNone, moves_of}
 use Rattle.dds_ends.proofs.Idle.{idle_step, jumps_nowhere, stays_with}
 use Rattle.dds_base.specs.Places.{Match}
@@ -63,9 +64,10 @@ use Rattle.dds_ends.proofs.Beating.{adds_none, adds_on}
 use Rattle.dds_ends.specs.Storing.{Holds}
 use Rattle.dds_core.proofs.Ends.{with_reader}
 use Rattle.dds_ends.proofs.Lists.{element, left_at, left_more, drop_set, set_back}
-use Rattle.dds_core.proofs.Named.{first_row, is_to, row_of_writer}
+use Rattle.dds_core.proofs.KnownWriters.{has_none, stands_away}
+use Rattle.dds_core.proofs.Named.{first_row, is_to}
 use Rattle.std.proofs.lemmas.Bool.Decides.{nat_tests}
-use Rattle.dds_machine.specs.Part.{Attachment}
+use Rattle.dds_machine.specs.Part.{Attachment, Away}
 use Rattle.dds_core.proofs.Takes.{Telling, known_of, reader_of, stood, stands_here}
 use Rattle.dds_core.proofs.Meeting.{Took, Met, NowKnows, NowHas, told_match, moves_at, due_to, change_met, gap_met, nothing_met, jump_met, heartbeat_met, beat_met, repeated_met}
 
@@ -373,28 +375,47 @@ took config peer kept new at s i k ready moves sent after gone stands at_k is t 
     same_name : own_name ≡ t.name
     same_name = same_Some own_name t.name (sym is.named.first.at ∙ t.at_name)
 
+-- a reader that is not named does what one does that does not stand to the writer, or there is no such writer
+unmatched : (config : Config) (peer : Peer) (kept : PeerKept) (at : Receiver) (reader_id writer_id : EntityId) (i : ℕ)
+    (k : ReaderKept) → StandsFor kept config peer → slice_get kept.readers i ≡ Some k
+    → ((n : ℕ) → IsNamedFor kept.prefix k at reader_id writer_id n → ⊥)
+    → (Meets : Attachment → Endpoint → EntityId → Bool → Type 0) (Idle : Type 0)
+    → ((w : Endpoint) (entity : EntityId) (reliable : Bool) → Meets Away w entity reliable) → Idle
+    → WhereMatched config kept.prefix at reader_id writer_id (record { peer = peer.number; number = suc i })
+    (λ w entity reliable. Meets (stands_to (state_of peer) w (suc i)) w entity reliable) Idle
+unmatched config peer kept at reader_id writer_id i k stands at_k none Meets Idle away idle =
+    ⊎_elim
+    (λ f.
+    let apart =
+    stands_away config peer kept stands i k at_k f.0
+    (has_none config peer kept stands i k at_k at reader_id writer_id f.0 f.1 none) in
+    let reliable : Bool = is_reliable_reader f.1.to.end in
+    inl (
+      f.0,
+      f.1,
+      subst (λ (a : Attachment). Meets a f.0 f.1.entity reliable) (sym apart) (away f.0 f.1.entity reliable),
+    )) (λ n. inr (n, idle))
+    (finds_writer config kept.prefix at reader_id writer_id (record { peer = peer.number; number = suc i }))
+
 -- it is not named, and so it has nothing to do
 unnamed : (config : Config) (peer : Peer) (kept : PeerKept) (at : Receiver) (s : Submessage) (i : ℕ) (k : ReaderKept)
     → StandsFor kept config peer → slice_get kept.readers i ≡ Some k → IsUnnamed kept.prefix at s k
     → ReaderTakes config kept.prefix peer.number at s (suc i) (state_of peer) [] [] (state_of peer)
 unnamed config peer kept at (Data d) i k stands at_k none =
-    inr (
-      λ w to. row_of_writer config peer kept stands i k at_k at d.reader_id d.writer_id w to
-          (none d.reader_id d.writer_id (refl, refl)),
-      (refl, refl, refl),
-    )
+    unmatched config peer kept at d.reader_id d.writer_id i k stands at_k (none d.reader_id d.writer_id (refl, refl))
+    (λ a w entity reliable. MeetsChange a reliable (state_of peer) w (suc i) d.writer_sn
+    (change_in d.content at.timestamp) [] (state_of peer) × (◌≡◌ {A = List Due} [] [])) (Idles (state_of peer) [] [] (state_of peer))
+    (λ w entity reliable. ((refl, refl), refl)) (refl, refl, refl)
 unnamed config peer kept at (Gap g) i k stands at_k none =
-    inr (
-      λ w to. row_of_writer config peer kept stands i k at_k at g.reader_id g.writer_id w to
-          (none g.reader_id g.writer_id (refl, refl)),
-      (refl, refl, refl),
-    )
+    unmatched config peer kept at g.reader_id g.writer_id i k stands at_k (none g.reader_id g.writer_id (refl, refl))
+    (λ a w entity reliable. MeetsGap a reliable (state_of peer) w (suc i) g [] (state_of peer)
+    × (◌≡◌ {A = List Due} [] [])) (Idles (state_of peer) [] [] (state_of peer))
+    (λ w entity reliable. ((refl, refl), refl)) (refl, refl, refl)
 unnamed config peer kept at (Heartbeat h) i k stands at_k none =
-    inr (
-      λ w to. row_of_writer config peer kept stands i k at_k at h.reader_id h.writer_id w to
-          (none h.reader_id h.writer_id (refl, refl)),
-      (refl, refl, refl),
-    )
+    unmatched config peer kept at h.reader_id h.writer_id i k stands at_k (none h.reader_id h.writer_id (refl, refl))
+    (λ a w entity reliable. MeetsHeartbeat a reliable kept.prefix at (state_of peer) w (suc i) entity h [] []
+    (state_of peer)) (Idles (state_of peer) [] [] (state_of peer))
+    (λ w entity reliable. (refl, refl, refl)) (refl, refl, refl)
 unnamed config peer kept at s i k stands at_k none = (refl, refl, refl)
 
 -- what a reader is told that does nothing at it

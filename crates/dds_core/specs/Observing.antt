@@ -11,8 +11,9 @@ use Rattle.rtps_wire.specs.declared.submessage.Submessage.{Submessage}
 use Rattle.rtps_wire.specs.declared.submessage.Submessage.TheVariants.{Data, Heartbeat, AckNack, Gap}
 use Rattle.rtps_wire.specs.Messages.{ReadsMessage}
 use Rattle.dds_base.specs.declared.endpoint.Endpoint.{Endpoint}
-use Rattle.dds_machine.specs.Part.{acknowledged_of, own_writer}
-use Rattle.dds_protocol.specs.Claims.{Receiver, receiver_of, after_submessage, is_for, Concerns, IsToWriter}
+use Rattle.dds_machine.specs.Matching.{is_known}
+use Rattle.dds_machine.specs.Part.{acknowledged_of, own_proxies, own_writer}
+use Rattle.dds_protocol.specs.Claims.{Receiver, receiver_of, after_submessage, is_for, IsToReader, IsToWriter}
 use Rattle.dds_protocol.specs.Peer.{Peer}
 use Rattle.dds_protocol.specs.Protocol.{WhereMatched}
 use Rattle.dds_protocol.specs.Receipt.{prefix_of}
@@ -49,14 +50,19 @@ abbrev pub one_where : Bool → ℕ
 one_where true = 1
 one_where false = 0
 
--- 1 where the submessage is of a counted writer that is matched with the peer's reader of this number, for that reader, and
--- old to it; else 0
+-- the peer's reader of this number knows the writer: it was opened with it, or has met it
+abbrev pub knows_writer : Peer → ℕ → Endpoint → Bool
+knows_writer peer reader writer = is_known (own_proxies peer.part reader) writer
+
+-- 1 where the submessage is of a counted writer that the peer's reader of this number knows, for that reader, and old to it;
+-- else 0
 abbrev pub OldAt : Config → GuidPrefix → Peer → Option Endpoint → Receiver → EntityId → EntityId → Submessage → ℕ → ℕ
     → Type 0
 OldAt config own peer of at reader_id writer_id submessage reader n =
     WhereMatched config own at reader_id writer_id (record { peer = peer.number; number = reader })
     (λ writer entity reliable. n ≡ one_where
-    (is_counted of writer && is_old (peer.known.tracked writer reader) submessage)) (n ≡ 0)
+    (knows_writer peer reader writer && is_counted of writer && is_old (peer.known.tracked writer reader) submessage))
+    (n ≡ 0)
 
 -- to so many of the peer's readers it is old
 abbrev pub OldTo : Config → GuidPrefix → Peer → Option Endpoint → Receiver → EntityId → EntityId → Submessage → ℕ
@@ -84,14 +90,23 @@ speaks (Heartbeat h) = true
 speaks (AckNack a) = true
 speaks submessage = false
 
--- it is a DATA, a GAP or a HEARTBEAT to a reader of the peer, or an ACKNACK to a writer of it from a reader that this one
--- is matched with
+-- a submessage of a writer is to a reader of the peer that knows the writer
+abbrev pub IsToKnowing : Config → GuidPrefix → Peer → Receiver → EntityId → EntityId → Type 0
+IsToKnowing config own peer at reader_id writer_id =
+    (writer reader : Endpoint) × IsToReader config own at reader_id writer_id writer reader
+    × (reader.peer ≡ peer.number) × (knows_writer peer reader.number writer ≡ true)
+
+-- it is a DATA, a GAP or a HEARTBEAT to a reader of the peer that knows the writer, or an ACKNACK to a writer of it from a
+-- reader that this one is matched with
 abbrev pub ConcernsPeer : Config → GuidPrefix → Peer → Receiver → Submessage → Type 0
+ConcernsPeer config own peer at (Data d) = IsToKnowing config own peer at d.reader_id d.writer_id
+ConcernsPeer config own peer at (Gap g) = IsToKnowing config own peer at g.reader_id g.writer_id
+ConcernsPeer config own peer at (Heartbeat h) = IsToKnowing config own peer at h.reader_id h.writer_id
 ConcernsPeer config own peer at (AckNack a) =
     (writer : ℕ) × (reader : Endpoint)
     × IsToWriter config own at a.reader_id a.writer_id (record { peer = peer.number; number = writer }) reader
     × IsSome (acknowledged_of (own_writer peer.part writer).readers reader)
-ConcernsPeer config own peer at submessage = Concerns config own peer.number at submessage
+ConcernsPeer config own peer at submessage = ⊥
 
 -- 1 where it speaks to readers or to a writer, in a part of the message that is for the peer, and to none of the peer's;
 -- else 0

@@ -18,5 +18,6 @@ pub record StandsFor (kept : PeerKept) (config : Config) (peer : Peer) : Type 0 
   pub early : kept.moment < end_of_moments
   pub writers : WritersStand kept.writers peer.part.rtps.writers peer.known.answered
   pub readers : ReadersStand kept.readers peer.part.rtps.readers peer.part.dds.readers peer.known
+  pub names : peer.part.rtps.names ≡ kept.names
   pub tellable : AreTellable peer.part
   pub watch : peer.part.dds.watch ≡ kept.watch

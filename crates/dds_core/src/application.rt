@@ -11,7 +11,7 @@ ghost use Rattle.dds_notices.specs.Listeners.{ByEntity, at_entity, shown};
 ghost use Rattle.dds_core.specs.Lending.{event_of};
 ghost use Rattle.dds_core.specs.Listening.{Adds, AreKept, RefusesEntity, RefusesFilter, RefusesListener, Sets, StandsFor, Steps, no_listeners};
 ghost use Rattle.dds_core.specs.Observing.{Observes};
-ghost use Rattle.dds_core.specs.Opening.{core_refusal, opening_peer};
+ghost use Rattle.dds_core.specs.Opening.{InRosters, core_refusal, opening_peer};
 ghost use Rattle.dds_core.specs.Pairs.{IsPair};
 ghost use Rattle.dds_core.specs.Remembering.{AreMisses};
 ghost use Rattle.dds_ends.specs.Sending.{AreMessages, max_unsent};
@@ -69,6 +69,11 @@ impl<F: Filter, L: Listener> Core<F, L> {
             (no_listeners (opening_peer config.now peer).part) core config.now (opening_peer config.now peer)) }
         // All that is known of it there was claimed.
         ensures known { OnOk result (IsSound config.now (opening_peer config.now peer)) }
+        // Both are so in each roster in which the peers of the configuration come first.
+        ensures roster { IfOk result (λ core. InRosters config.now
+            (λ roster. StandsFor L.notices L.capacity L.becomes
+            (no_listeners (opening_peer config.now peer).part) core roster (opening_peer config.now peer)
+            × IsSound roster (opening_peer config.now peer))) }
         // It has no filters.
         ensures none { IfOk result (λ core. core.filtered.filters ≡ []) }
         // Against what is opened there is no cause.

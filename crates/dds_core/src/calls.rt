@@ -3,7 +3,7 @@
 //! DDS 1.4, 2.2.2.4 (DataWriter).
 
 ghost use Rattle.std.specs.Prelude.{◌≡◌, ◌+◌, ◌^◌, ◌<◌, ◌≤◌, Some, length, slice_get, []};
-ghost use Rattle.dds_base.specs.Bounds.{max_readers};
+ghost use Rattle.dds_machine.specs.Matching.{max_known};
 ghost use Rattle.dds_machine.specs.declared.reply.Reply.TheVariants.{Done, Refused};
 ghost use Rattle.dds_machine.specs.declared.call.Call.TheVariants as call;
 ghost use Rattle.dds_protocol.specs.declared.event.Event.TheVariants as event;
@@ -38,7 +38,7 @@ impl Peer {
         ensures step { StepsBy (T.meaning filters.now) self.old (event.Call call) result self.new }
         ensures sends { Sends self.old (event.Call call) result }
         ensures messages { AreMessages result.packets }
-        ensures few { result.unsent ≤ max_readers }
+        ensures few { result.unsent ≤ max_known }
         ensures twin { Twins twin.old result.reply twin.new }
         ensures right { AreMisses (T.meaning filters.now) self.old misses.new }
     {
@@ -141,7 +141,7 @@ impl Peer {
         ensures step { Steps self.old (event.Call (call.AssertLiveliness writer)) result self.new }
         ensures sends { Sends self.old (event.Call (call.AssertLiveliness writer)) result }
         ensures messages { AreMessages result.packets }
-        ensures few { result.unsent ≤ max_readers }
+        ensures few { result.unsent ≤ max_known }
         ensures plain { IsPlain result.reply }
     {
         let Some(index) = index_of(writer, self.writers.len()) else {
@@ -190,7 +190,7 @@ impl Peer {
         ensures step { Steps self.old (event.Call (call.Write writer key value)) result self.new }
         ensures sends { Sends self.old (event.Call (call.Write writer key value)) result }
         ensures messages { AreMessages result.packets }
-        ensures few { result.unsent ≤ max_readers }
+        ensures few { result.unsent ≤ max_known }
         ensures plain { IsPlain result.reply }
     {
         let Some(index) = index_of(writer, self.writers.len()) else {
@@ -206,7 +206,7 @@ impl Peer {
         ensures step { Steps self.old (event.Call (call.Dispose writer key)) result self.new }
         ensures sends { Sends self.old (event.Call (call.Dispose writer key)) result }
         ensures messages { AreMessages result.packets }
-        ensures few { result.unsent ≤ max_readers }
+        ensures few { result.unsent ≤ max_known }
         ensures plain { IsPlain result.reply }
     {
         let Some(index) = index_of(writer, self.writers.len()) else {
@@ -220,7 +220,7 @@ impl Peer {
         ensures step { Steps self.old (event.Call (call.Unregister writer key)) result self.new }
         ensures sends { Sends self.old (event.Call (call.Unregister writer key)) result }
         ensures messages { AreMessages result.packets }
-        ensures few { result.unsent ≤ max_readers }
+        ensures few { result.unsent ≤ max_known }
         ensures plain { IsPlain result.reply }
     {
         let Some(index) = index_of(writer, self.writers.len()) else {
@@ -243,7 +243,7 @@ impl Peer {
         requires empty { IsValueOf kind value }
         ensures makes { Makes self.old index kind key value result self.new }
         ensures messages { AreMessages result.packets }
-        ensures few { result.unsent ≤ max_readers }
+        ensures few { result.unsent ≤ max_known }
         ensures plain { IsPlain result.reply }
     {
         let writer = &self.writers[index];

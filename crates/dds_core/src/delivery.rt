@@ -428,6 +428,7 @@ impl Peer {
 
     /// Each reader that a submessage names is told what it says. Adds what moved. One that can do nothing at any of them
     /// needs no memory.
+    #[inline(always)]
     fn tell_readers(
         &mut self,
         effects: &mut Effects,
@@ -464,7 +465,7 @@ impl Peer {
         ensures takes { OnOk result
             (TakesOneMore self.old (receiver_at receiver.now) submessage.now effects.old
             self.new effects.new) }
-        ensures keeps { KeepsPeer (2 ^ 16) self.old effects.old self.new effects.new result }
+        ensures keeps { KeepsPeer (2 ^ 40) self.old effects.old self.new effects.new result }
         ensures needs { OnErr result
             (NeedsMemory self.old (receiver_at receiver.now) submessage.now) }
     {
@@ -487,7 +488,7 @@ impl Peer {
             (TakesFrame self.old (receiver_at receiver.old)
             frame.now.id frame.now.flags frame.now.body.now effects.old
             self.new effects.new (receiver_at receiver.new)) }
-        ensures keeps { KeepsPeer (2 ^ 16) self.old effects.old self.new effects.new result }
+        ensures keeps { KeepsPeer (2 ^ 40) self.old effects.old self.new effects.new result }
         ensures needs { OnErr result
             (FrameNeedsMemory self.old
             (receiver_at receiver.old) frame.now.id frame.now.flags frame.now.body.now) }

@@ -16,7 +16,7 @@ ghost use Rattle.dds_core.specs.FilteredSteps.{Adds, RefusesFilter, Steps};
 ghost use Rattle.dds_core.specs.Lending.{event_of};
 ghost use Rattle.dds_core.specs.Noticing.{AreMarksOf, MarksPeer, Tells};
 ghost use Rattle.dds_core.specs.Observing.{Observes};
-ghost use Rattle.dds_core.specs.Opening.{core_refusal, opening_peer};
+ghost use Rattle.dds_core.specs.Opening.{InRosters, core_refusal, opening_peer};
 ghost use Rattle.dds_core.specs.Pairs.{IsPair};
 ghost use Rattle.dds_core.specs.Remembering.{AreMisses};
 ghost use Rattle.dds_ends.specs.Sending.{AreMessages, max_unsent};
@@ -64,6 +64,9 @@ impl<F: Filter> FilteredPeer<F> {
         // The peer stands for its opening in the configuration.
         ensures opening { IfOk result
             (λ core. StandsFor core config.now (opening_peer config.now peer)) }
+        // So it does in each roster in which the peers of the configuration come first.
+        ensures roster { IfOk result (λ core. InRosters config.now
+            (λ roster. StandsFor core roster (opening_peer config.now peer))) }
         // It has no filters.
         ensures none { IfOk result (λ core. core.filters ≡ []) }
         // Against what is opened there is no cause.

@@ -10,7 +10,7 @@ ghost use Rattle.dds_base.specs.Refusal.{Refuses};
 ghost use Rattle.dds_conditions.specs.Filtered.{tests_of};
 ghost use Rattle.dds_conditions.specs.Watched.{is_used, uses_in};
 ghost use Rattle.dds_core.specs.Listening.{Adds, RefusesFilter, RefusesListener, Sets, StandsFor, Steps, no_listeners};
-ghost use Rattle.dds_core.specs.Opening.{core_refusal, opening_peer};
+ghost use Rattle.dds_core.specs.Opening.{InRosters, core_refusal, opening_peer};
 ghost use Rattle.dds_core.specs.Ruling.{IsSound};
 ghost use Rattle.dds_ends.specs.Sending.{AreMessages};
 ghost use Rattle.dds_core.specs.Standing.{StandsFor as PeerStandsFor};
@@ -66,6 +66,11 @@ impl<F: Filter, L: Listener> Mindful<F, L> {
             (no_listeners (opening_peer config.now peer).part) core config.now (opening_peer config.now peer)) }
         // All that is known of it there was claimed.
         ensures known { OnOk result (IsSound config.now (opening_peer config.now peer)) }
+        // Both are so in each roster in which the peers of the configuration come first.
+        ensures roster { IfOk result (λ core. InRosters config.now
+            (λ roster. StandsFor L.notices L.capacity L.becomes
+            (no_listeners (opening_peer config.now peer).part) core roster (opening_peer config.now peer)
+            × IsSound roster (opening_peer config.now peer))) }
         // It has no filters.
         ensures none { IfOk result (λ core. core.filtered.filters ≡ []) }
         // Against what is opened there is no cause.

@@ -210,6 +210,7 @@ impl Moves {
     }
 
     /// Makes room for so many moves.
+    #[inline(always)]
     pub fn reserve(&mut self, count: usize) -> Result<(), AllocError>
         ensures items { self.new.items ≡ self.old.items }
         ensures twice { self.new.twice ≡ self.old.twice }

@@ -27,14 +27,15 @@ use rtps_wire::{AckNack, Frame, MAX_MESSAGE, Submessage, begin_message, next_fra
 /// where they were.
 #[derive(Clone, Copy)]
 pub struct Observed {
-    /// DATA of a matched writer, for a reader of the peer, whose number lies below the reader's place: one for each such
-    /// reader.
+    /// DATA of a writer for a reader of the peer that knows it, whose number lies below the reader's place: one for each
+    /// such reader.
     pub old_data: u64,
-    /// HEARTBEATs of a matched writer, for a reader of the peer, whose count is not later than that of the last one that
-    /// it took: one for each such reader.
+    /// HEARTBEATs of a writer for a reader of the peer that knows it, whose count is not later than that of the last one
+    /// that it took: one for each such reader.
     pub old_heartbeats: u64,
     /// DATA, GAPs, HEARTBEATs and ACKNACKs, in parts of the message that are for this peer, that concern no reader and no
-    /// writer of it. An ACKNACK concerns a writer that is matched with its reader, a reliable one.
+    /// writer of it. A reader is concerned by what comes of writers that it knows, a writer by an ACKNACK of a reader that
+    /// it is matched with, a reliable one.
     pub to_nobody: u64,
 }
 

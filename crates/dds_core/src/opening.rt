@@ -6,7 +6,7 @@ ghost use Rattle.std.specs.Prelude.{◌≡◌, ◌<◌, length, None, Ok, IfOk, 
 ghost use Rattle.std.specs.Fn.{FnReturnsAt};
 ghost use Rattle.dds_base.specs.Checked.{check_refusal};
 ghost use Rattle.dds_base.specs.Refusal.{Refuses};
-ghost use Rattle.dds_core.specs.Opening.{core_refusal, opening_peer};
+ghost use Rattle.dds_core.specs.Opening.{InRosters, core_refusal, opening_peer};
 ghost use Rattle.dds_core.specs.OpeningEnds.{OpensEach, OpensCore};
 ghost use Rattle.dds_core.specs.Standing.{StandsFor};
 
@@ -15,6 +15,7 @@ use crate::spare_lists::SpareLists;
 use dds_base::{Code, Config, Moment, PeerConfig, index_of_peer};
 use dds_conditions::Watch;
 use dds_ends::{ReaderEnd, WriterEnd};
+use dds_names::KnownNames;
 use std::alloc::{AllocError, Global};
 
 /// What opens of each of these configurations, in their order.
@@ -51,6 +52,7 @@ fn open(alloc: Global, peers: &[PeerConfig], index: usize) -> Result<Peer, Alloc
         own.readers.as_slice(),
         |r| ReaderEnd::open(alloc, peers, r),
     )?;
+    let names = KnownNames::open(alloc, peers)?;
     let watch = Watch::open(alloc, writers.len(), readers.len())?;
     Ok(Peer {
         alloc,
@@ -58,6 +60,7 @@ fn open(alloc: Global, peers: &[PeerConfig], index: usize) -> Result<Peer, Alloc
         moment: Moment::new(0),
         writers,
         readers,
+        names,
         watch,
         spare: SpareLists::new(alloc),
     })
@@ -74,6 +77,9 @@ impl Peer {
         // The peer stands for its opening in the configuration.
         ensures opening { IfOk result
             (λ core. StandsFor core config.now (opening_peer config.now peer)) }
+        // So it does in each roster in which the peers of the configuration come first.
+        ensures roster { IfOk result (λ core. InRosters config.now
+            (λ roster. StandsFor core roster (opening_peer config.now peer))) }
         // Against what is opened there is no cause.
         ensures taken { IfOk result (λ core. core_refusal config.now.peers peer ≡ None) }
         // A refusal is by the first cause that there is, or for want of memory.

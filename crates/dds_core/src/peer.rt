@@ -2,7 +2,9 @@
 //!
 //! DDS 1.4, 2.2.2.4 and 2.2.2.5 (DataWriter, DataReader); RTPS 2.5, 8.4 (behaviour).
 
-ghost use Rattle.std.specs.Prelude.{◌≡◌, ◌<◌, ◌≤◌};
+ghost use Rattle.std.specs.Prelude.{◌≡◌, ◌*◌, ◌<◌, ◌≤◌};
+ghost use Rattle.dds_base.specs.Bounds.{max_ends};
+ghost use Rattle.dds_machine.specs.Matching.{max_known};
 ghost use Rattle.dds_protocol.specs.declared.event.Event.TheVariants as event;
 ghost use Rattle.dds_core.specs.Lending.{event_of};
 ghost use Rattle.dds_core.specs.Remembering.{AreMisses};
@@ -19,6 +21,7 @@ use dds_ends::{
     Announced, ReaderEnd, Twin, WriterEnd, answered, counts_deaths, expire_all, tick_all,
 };
 use dds_machine::Reply;
+use dds_names::KnownNames;
 use dds_protocol::Output;
 use std::alloc::Global;
 use std::marker::Model;
@@ -36,6 +39,8 @@ pub struct Peer {
     pub(crate) moment: Moment,
     pub(crate) writers: Vec<WriterEnd>,
     pub(crate) readers: Vec<ReaderEnd>,
+    /// By which names it speaks of ends, its own and others'.
+    pub(crate) names: KnownNames,
     pub(crate) watch: Watch,
     /// Of what callers gave back. No event depends on it.
     pub(crate) spare: SpareLists,
@@ -52,6 +57,7 @@ impl Model for Peer {
       moment = c.moment;
       writers = c.writers.items;
       readers = c.readers.items;
+      names = c.names;
       watch = c.watch;
     } };
 
@@ -100,7 +106,7 @@ impl Peer {
         ensures step { Steps self.old (event.Tick now) result self.new }
         ensures sends { Sends self.old (event.Tick now) result }
         ensures messages { AreMessages result.packets }
-        ensures few { result.unsent ≤ 4096 }
+        ensures few { result.unsent ≤ max_ends * max_known }
         ensures plain { IsPlain result.reply }
     {
         if now.units() < self.moment.units() || MOMENT_END <= now.units() {

@@ -3,7 +3,8 @@
 //! RTPS 2.5, 8.4.9 (the behaviour of a reliable StatefulWriter).
 
 ghost use Rattle.std.specs.Prelude.{◌≡◌, ◌+◌, ◌^◌, ◌<◌, ◌≤◌, Some, length, slice_get, IfSome, IfNone, OnOk, OnErr};
-ghost use Rattle.dds_base.specs.Bounds.{max_readers, window_width};
+ghost use Rattle.dds_base.specs.Bounds.{window_width};
+ghost use Rattle.dds_machine.specs.Matching.{max_known};
 ghost use Rattle.rtps_wire.specs.declared.submessage.Submessage.TheVariants as submessage;
 ghost use Rattle.dds_ends.specs.Answering.{HasRoom, acknack_moves, listed};
 ghost use Rattle.dds_core.specs.Answering.{HaveRoom, AsksNone, IsAskedWriter, TakesRow, TakesAllRows};
@@ -105,13 +106,13 @@ impl Peer {
         requires within { (k : WriterKept) × (slice_get self.old.writers index ≡ Some k)
             × (length rooms.items ≡ length k.readers) }
         requires base { 1 ≤ body.now.reader_sn_state.base }
-        requires few { length rooms.items ≤ max_readers }
+        requires few { length rooms.items ≤ max_known }
         requires rooms { HaveRoom body.now.reader_sn_state rooms.items }
         requires moves { length rooms.items ≤ effects.old.moves.room }
         requires low { effects.old.sent.unsent < 2 ^ 59 }
         ensures takes { TakesAllRows self.old index body.now rooms.items effects.old self.new
             effects.new }
-        ensures on { GoOn (2 ^ 16) effects.old effects.new }
+        ensures on { GoOn (2 ^ 40) effects.old effects.new }
     {
         let mut rooms = rooms;
         for row in 0..rooms.len() {
@@ -134,7 +135,7 @@ impl Peer {
         ensures takes { OnOk result
             (TakesOneMore self.old (receiver_at receiver.now) (submessage.AckNack body.now)
             effects.old self.new effects.new) }
-        ensures keeps { KeepsPeer (2 ^ 16) self.old effects.old self.new effects.new result }
+        ensures keeps { KeepsPeer (2 ^ 40) self.old effects.old self.new effects.new result }
         ensures needs { OnErr result
             (NeedsMemory self.old (receiver_at receiver.now) (submessage.AckNack body.now)) }
     {

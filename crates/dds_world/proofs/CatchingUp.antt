@@ -40,7 +40,6 @@ use Rattle.dds_protocol.proofs.PairMissed.{LeavesPair, missed_leaves_pair, not_b
 use Rattle.dds_protocol.proofs.PairNamed.{PairOf}
 use Rattle.dds_protocol.proofs.PairTicked.{tick_leaves, ticks_there}
 use Rattle.dds_protocol.proofs.DuesMatched.{own_name, reader_entity_is}
-use Rattle.dds_protocol.proofs.Rosters.{configs_are_rosters}
 use Rattle.dds_core.proofs.KnownPairs.{pair_kept}
 use Rattle.dds_world.specs.declared.round.Matched.{Matched}
 use Rattle.dds_world.specs.declared.round.Round.{Round}
@@ -303,7 +302,7 @@ beat_is_found : {hearing : Hearing} → (t : Tick hearing) → acknowledged t �
 beat_is_found t behind left none =
     let beat =
     beats_are_sent t.config t.tests t.m.writer t.m.reader (acknowledged t) t.m.moment t.network (after_tick t)
-    (configs_are_rosters t.config (core t).stands.is_peer.checked) t.s.used (row t) behind left (ruled0 t) in
+    (core t).stands.is_peer.roster t.s.used (row t) behind left (ruled0 t) in
     let name = own_name t.config t.m.writer.peer (part t) (of t) t.m.writer.number (here t) in
     let has : Has beat.packet.bytes (sought.Heartbeat t.m.pair.writer) =
     subst (λ (e : EntityId). Has beat.packet.bytes (sought.Heartbeat e)) (sym t.known.writer)
@@ -399,7 +398,7 @@ begins h = record {
 begun : {hearing : Hearing} → Hear hearing → Begun
 begun h =
     the_begun h.t.config h.t.tests h.t.m.writer h.t.m.reader h.t.place (acknowledged h.t) h.t.network (after_beat h)
-    (configs_are_rosters h.t.config (core h.t).stands.is_peer.checked) h.t.s.sound h.t.s.used h.t.s.bounded (pair h.t).pair (stands h.t) (begins h)
+    (core h.t).stands.is_peer.roster h.t.s.sound h.t.s.used h.t.s.bounded (pair h.t).pair (stands h.t) (begins h)
 
 none1 : {hearing : Hearing} → (h : Hear hearing) → (w1 h).step.lost ≡ 0
 none1 h = nothing_lost h.beat (w1 h) h.t.same h.t.below
@@ -538,7 +537,7 @@ all_answers a =
     let c = a.h.t in
     let few =
     answers_are_few c.config a.h.t.tests c.m.writer c.m.reader c.place (acknowledged c) c.network (after_ask a)
-    (configs_are_rosters c.config (core c).stands.is_peer.checked) c.s.sound c.s.used c.s.bounded (pair c).pair (stands c) (asks a) in
+    (core c).stands.is_peer.roster c.s.sound c.s.used c.s.bounded (pair c).pair (stands c) (asks a) in
     let most : length (answers a) ≤ 256 = enough (writer_at (machine_of c.network) c.m.writer).max_value _ few in
     let size = ap (λ (ps : List Packet). length ps) (sent2 a) in
     let parts = length-append a.h.beat.mid.sent (answers a) in
@@ -562,7 +561,7 @@ answered {hearing} a later rest new whole next = (
   ),
   all.stands,
   inr (inr (pair_catches_up c.config a.h.t.tests c.m.writer c.m.reader c.place (acknowledged c) c.network all.after
-      (configs_are_rosters c.config (core c).stands.is_peer.checked) c.s.sound c.s.used c.s.bounded (pair c).pair (stands c) c.spoken round)),
+      (core c).stands.is_peer.roster c.s.sound c.s.used c.s.bounded (pair c).pair (stands c) c.spoken round)),
 )
   where
     c : Tick hearing

@@ -31,7 +31,6 @@ use Rattle.dds_protocol.specs.World.{Sound, WorldState, WorldStep, PeerSteps, ma
 use Rattle.dds_protocol.proofs.Bounded.{steps_bounded}
 use Rattle.dds_protocol.proofs.Composed.{composes}
 use Rattle.dds_protocol.proofs.FreshCounts.{steps_used}
-use Rattle.dds_protocol.proofs.Rosters.{configs_are_rosters}
 use Rattle.dds_machine.proofs.Tables.{append_nothing}
 use Rattle.dds_core.specs.Standing.{StandsFor as CoreStandsFor}
 use Rattle.dds_core.specs.Ruling.{KeepsRules as CoreKeepsRules}
@@ -210,7 +209,7 @@ acts_ruled {hearing} {tests} kept new i ev whole reply its into acts sends confi
     let ends : world_ended network whole next ≡ with_peer network i end new.sent =
     ended_at network whole i r.0 new.sent its low' in
     let used : HasUsedCounts config next =
-    steps_used config tests network whole reply lost next (configs_are_rosters config core.is_peer.checked) s.used ruled in
+    steps_used config tests network whole reply lost next core.is_peer.roster s.used ruled in
     let bounded : IsBounded (machine_of next) =
     steps_bounded tests (length network.sent) (machine_of network) whole reply (machine_of next) s.bounded c.0 in
     let stands : StandsFor new config (with_peer network i end new.sent) =

@@ -43,6 +43,7 @@ returns-clause-stands c =
       moment = c.self.inside.moment;
       writers = c.self.inside.writers.items;
       readers = rs;
+      names = c.self.inside.names;
       watch = c.self.inside.watch;
     })) (sym same)
     (subst (λ (k : PeerKept). StandsAsWell k
@@ -51,6 +52,7 @@ returns-clause-stands c =
       moment = c.self.inside.moment;
       writers = c.self.inside.writers.items;
       readers = c.prepare.new.readers;
+      names = c.self.inside.names;
       watch = c.self.inside.watch;
     })) c.self.view_is
     (alike_core _ c.prepare.new.readers alike))

@@ -3,6 +3,7 @@ use Rattle.dds_base.specs.declared.config.Config.{Config}
 use Rattle.dds_base.specs.declared.config.PeerConfig.{PeerConfig}
 use Rattle.dds_core.specs.Opening.{opening_peer}
 use Rattle.dds_core.specs.Standing.{StandsFor}
+use Rattle.dds_core.proofs.InRosters.{stands_in}
 use Rattle.dds_core.proofs.peer.Peer.open.Goals as goal
 
 -- an opened peer stands for its opening in a configuration
@@ -14,3 +15,8 @@ returns-clause-opening c =
     subst (λ (n : ℕ). Opened c c.args.config.now n) (sym c.in-Some.ensures.index.0)
     (subst (λ (ps : List PeerConfig). Opened c (record { peers = ps }) (c.in-Some.index + 1))
     c.as_slice-peers.ensures.elements c.in_ok-open.ensures)
+
+pub returns-clause-roster : goal.returns-clause-roster
+returns-clause-roster c =
+    stands_in c.in_ok-open.field-0 c.args.config.now (opening_peer c.args.config.now c.args.peer)
+    (returns-clause-opening c)

@@ -14,7 +14,7 @@ returns-in_default c = record {
       let k = c.tell_readers.ensures.keeps in
       record {
         prefix = k.prefix;
-        on = at_most 16 (2 ^ 16) c.args.effects.now c.tell_readers.new.effects (omega arith) k.on;
+        on = at_most 16 (2 ^ 40) c.args.effects.now c.tell_readers.new.effects (omega arith) k.on;
         err = k.err;
         memory = k.memory;
       };

@@ -11,7 +11,7 @@ invariant-loop-frame l = record {
   taken : TakesTo l.initial.self l.fn.source l.body l.left l.index (receiver_at l.receiver) l.effects.moves.items l.self l.effects.sent;
   within : l.index + length l.left ≤ length l.body;
   octets : AreOctets l.left;
-  few : l.effects.sent.unsent ≤ 2 ^ 16 * l.index;
+  few : l.effects.sent.unsent ≤ 2 ^ 40 * l.index;
   messages : AreMessages l.effects.sent.packets.items;
   same : l.self.prefix ≡ l.initial.self.prefix;
   twice : l.effects.moves.twice ≡ wants_two l.twin;
