@@ -76,6 +76,7 @@ pub mod PairAsks
 pub mod PairNamed
 pub mod PairFound
 pub mod Compared
+pub mod FarCompared
 pub mod CallChanges
 pub mod FiltersKept
 pub mod AtEnds
