@@ -94,3 +94,5 @@ pub mod GoesOn
 pub mod Answered
 pub mod Rosters
 pub mod Coming
+pub mod Meetings
+pub mod Familiar

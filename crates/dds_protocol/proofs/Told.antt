@@ -79,14 +79,15 @@ answer_says tests old (call.GetLivelinessLost v) (LivelinessLost status) new a t
 answer_says tests old (call.GetPublicationMatched v) (Matched status) new a t e = cc
 answer_says tests old c reply new a t e = cc
 
--- a call tells nobody anything, or is a telling that is done
-pub untold_or_told : (tests : Tests) (old : Part) (c : Call) (reply : Reply) (new : Part)
+-- a call tells nobody anything, or is a telling that is done, by its effect
+pub untold_or_tells : (tests : Tests) (old : Part) (c : Call) (reply : Reply) (new : Part)
     → CallStep tests old c reply new
-    → Untold (effect_of old c reply) ⊎ ((t : Telling) × TellStep old t None new)
-untold_or_told tests old c reply new h = by (effect_of old c reply) refl h.rtps
+    → Untold (effect_of old c reply)
+    ⊎ ((t : Telling) × (effect_of old c reply ≡ tells t) × TellStep old t None new)
+untold_or_tells tests old c reply new h = by (effect_of old c reply) refl h.rtps
   where
     by : (e : Effect) → effect_of old c reply ≡ e → new.rtps ≡ effect old.rtps e
-        → Untold e ⊎ ((t : Telling) × TellStep old t None new)
+        → Untold e ⊎ ((t : Telling) × (effect_of old c reply ≡ tells t) × TellStep old t None new)
     by nothing is rtps = inl tt
     by (writes w entry) is rtps = inl tt
     by (looks_at_matches w) is rtps = inl tt
@@ -95,12 +96,19 @@ untold_or_told tests old c reply new h = by (effect_of old c reply) refl h.rtps
         answer_says tests old c reply new.dds h.answers t (ap (λ (e : Effect). told_by e) is) in
         inr (
           t,
+          is,
           (
             says.0,
             ap (λ (r : Rtps). let p : Part = record { rtps = r; dds = new.dds } in p) rtps
                 ∙ ap (λ (d : Dds). let p : Part = record { rtps = after_telling old.rtps t; dds = d } in p) says.1,
           ),
         )
+
+pub untold_or_told : (tests : Tests) (old : Part) (c : Call) (reply : Reply) (new : Part)
+    → CallStep tests old c reply new
+    → Untold (effect_of old c reply) ⊎ ((t : Telling) × TellStep old t None new)
+untold_or_told tests old c reply new h =
+    ⊎_elim (λ untold. inl untold) (λ told. inr (told.0, told.2)) (untold_or_tells tests old c reply new h)
 
 -- ---- the rows of a reader
 

@@ -25,3 +25,5 @@ pub mod Filters
 pub mod Noticing
 pub mod Tellings
 pub mod Coming
+pub mod Meetings
+pub mod Familiar
