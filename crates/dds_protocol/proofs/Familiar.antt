@@ -153,7 +153,7 @@ tells_known old peer (call.GetPublicationMatched v) (Matched status) h = tt
 tells_known old peer c reply h = tt
 
 -- a match that is not refused is with an end that is known
-known_then : (known told : Bool) → matching_refusal known told ≡ None → known ≡ true
+pub known_then : (known told : Bool) → matching_refusal known told ≡ None → known ≡ true
 known_then true told h = refl
 known_then false told h = absurd cc
 
@@ -227,7 +227,7 @@ readers_same k part (entity.Writer n) status = (put_writer part.rtps n _ refl).r
 readers_same k part (entity.Reader n) (SubscriptionMatched values) = refl
 readers_same k part (entity.Reader n) status = refl
 
-end_known : (before part : Part) → KnowsTheSame part (at_end before part)
+pub end_known : (before part : Part) → KnowsTheSame part (at_end before part)
 end_known before part = record {
   names = end_keeps (λ (p : Part). p.rtps.names) names_same before part;
   readers = λ w. end_keeps (λ (p : Part). (own_writer p w).known) (readers_same w) before part;

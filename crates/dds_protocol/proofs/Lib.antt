@@ -96,3 +96,4 @@ pub mod Rosters
 pub mod Coming
 pub mod Meetings
 pub mod Familiar
+pub mod Joining

@@ -293,7 +293,7 @@ opening_guids peers r good (suc i) (suc j) a b at_v at_w same =
     (writer_qos r.topic peers) j i b a before at_w at_v that this in omega arith in
     omega arith
 
-own_guids : (peers : List PeerConfig) (r : ReaderConfig) → IsChecked peers → (h : List Happening) → joined_in h ≡ []
+pub own_guids : (peers : List PeerConfig) (r : ReaderConfig) → IsChecked peers → (h : List Happening) → joined_in h ≡ []
     → HaveOwnGuids (reader_qos peers r) h
 own_guids peers r good h none =
     subst (λ (ws : List MatchedWriter). OwnGuids ws) (sym (nobody-joined (reader_qos peers r) h none))

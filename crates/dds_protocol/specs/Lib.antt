@@ -27,3 +27,4 @@ pub mod Tellings
 pub mod Coming
 pub mod Meetings
 pub mod Familiar
+pub mod Joining

@@ -15,6 +15,7 @@ ghost use Rattle.dds_protocol.specs.Familiar.{RunsFamiliar, StaysFamiliar};
 ghost use Rattle.dds_protocol.specs.Fresh.{OpensUsed, StepsUsed};
 ghost use Rattle.dds_protocol.specs.Greetings.{OpensAnswered, RunsAnswered, StaysAnswered};
 ghost use Rattle.dds_protocol.specs.InOrder.{ChangesComeInOrder};
+ghost use Rattle.dds_protocol.specs.Joining.{OpensApart, OwnersExistThen, StaysApart};
 ghost use Rattle.dds_protocol.specs.Laws.{AnswersAreTrue, AnswersCanBeWritten, AssertionsAreTrue, AssertionsCanBeWritten, Composes, ComposesRuns, HeartbeatsAreTrue, HeartbeatsCanBeWritten, KeepAllIsKept, OpensBacked, OpensSound, OwnersExist, ReadersTellWritersApart, ResumesRestOnClaims, RulesRestOnClaims};
 ghost use Rattle.dds_protocol.specs.Meetings.{ComesByRoster, MayBeCalledSo, OpensByRoster, StepsByRoster};
 ghost use Rattle.dds_protocol.specs.Protocol.{answers_per};
@@ -130,6 +131,21 @@ pub fn nobody_is_met()
     // and after every run of such events.
     ensures run { RunsFamiliar }
 {}
+
+/// A reader tells the writers apart that it was opened with or met: its rows are of those, and no two have one GUID. So an
+/// instance has an owner wherever a writer is registered for it, whoever is met.
+///
+/// RTPS 2.5, 8.4.10.3; DDS 1.4, 2.2.3 (OWNERSHIP).
+pub fn readers_tell_writers_apart()
+    // It is so at the opening,
+    ensures opening { OpensApart }
+    // and after every event.
+    ensures step { StaysApart }
+    // So after every run there is an owner.
+    ensures owner { OwnersExistThen }
+{
+    owner_is_found();
+}
 
 /// A peer may meet writers and readers that no configuration lists, by calls, at any moment, if the roster has them: under
 /// the name that is told, with the GUID that is told, of its own end's topic.
