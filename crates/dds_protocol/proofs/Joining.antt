@@ -26,11 +26,12 @@ use Rattle.dds_base.specs.declared.happening.Happening.TheVariants.{Heard as Was
 use Rattle.dds_base.specs.declared.happening.PassedRun.{PassedRun}
 use Rattle.dds_base.specs.declared.happening.SamplePosition.{SamplePosition}
 use Rattle.dds_base.specs.declared.qos.MatchedWriter.{MatchedWriter}
+use Rattle.dds_base.specs.declared.qos.ReaderQos.{ReaderQos}
 use Rattle.dds_base.specs.declared.selection.Selection.{Selection}
 use Rattle.dds_base.specs.Checked.{is_bad_lease, same_entity, same_prefix}
 use Rattle.dds_base.specs.Liveliness.{dead_at}
 use Rattle.dds_base.specs.Matched.{any_writer, of_ends_in, of_matched_writers, same_topic}
-use Rattle.dds_base.specs.Ownership.{joined_in, writer_of, writers_of}
+use Rattle.dds_base.specs.Ownership.{joined_in, named_by, writer_of, writers_of}
 use Rattle.dds_base.specs.Places.{AllCome, GoesTo, Match, PlaceWith, WriterGrounds}
 use Rattle.dds_base.proofs.JoinLaws.{joined-deaths, joined-parted, with-joined}
 use Rattle.dds_conditions.specs.declared.condition.Cond.{Cond}
@@ -148,25 +149,66 @@ moves_writers g old (m ∷ ms) new h =
 
 -- ---- a call, by the form of its answer
 
--- what the peer's calls see then has the same writers
-abbrev Keeps : Part → Dds → Type 0
-Keeps old new = SameWriters old.dds.readers new.readers
+-- nothing more happened, or one thing that names no writer, and by which none joins
+abbrev Quietly : List Happening → List Happening → Type 0
+Quietly h h' = (h' ≡ h)
+    ⊎ ((e : Happening) × (named_by e ≡ None) × (joined_in (e ∷ h) ≡ joined_in h) × (h' ≡ e ∷ h))
+
+-- so it is of a reader, which has the same policies
+pub record QuietReader (old new : Reader) : Type 0 where
+  pub qos : new.qos ≡ old.qos
+  pub happened : Quietly old.happened new.happened
+
+quiet_same : (r : Reader) → QuietReader r r
+quiet_same r = record { qos = refl; happened = inl refl }
+
+quiet_writers : (old new : Reader) → QuietReader old new → writers_of_reader new ≡ writers_of_reader old
+quiet_writers old new q =
+    ap (λ (x : ReaderQos). writers_of x new.happened) q.qos
+    ∙ ⊎_elim (λ e. ap (λ (h : List Happening). writers_of old.qos h) e)
+    (λ o. ap (λ (h : List Happening). writers_of old.qos h) o.3
+    ∙ ap (λ (ws : List MatchedWriter). old.qos.writers ++ ws) o.2) q.happened
+
+-- so it is of each of these readers
+abbrev pub AllQuiet : List Reader → List Reader → Type 0
+AllQuiet old new = (r : ℕ) → QuietReader (numbered old r no_reader) (numbered new r no_reader)
+
+all_quiet : (rs : List Reader) → AllQuiet rs rs
+all_quiet rs r = quiet_same (numbered rs r no_reader)
+
+put_quiet : (rs : List Reader) (k : ℕ) (after : Reader) → QuietReader (numbered rs k no_reader) after
+    → AllQuiet rs (with_numbered rs k after)
+put_quiet rs k after q r =
+    ⊎_elim
+    (λ e. subst (λ (x : Reader). QuietReader (numbered rs r no_reader) x) (sym e) (quiet_same (numbered rs r no_reader)))
+    (λ s. subst (λ (x : Reader). QuietReader (numbered rs r no_reader) x) (sym s.1)
+    (subst (λ (j : ℕ). QuietReader (numbered rs j no_reader) after) (sym s.0) q))
+    (numbered-cases rs k after r no_reader)
+
+as_writers : (old new : List Reader) → AllQuiet old new → SameWriters old new
+as_writers old new q r = quiet_writers (numbered old r no_reader) (numbered new r no_reader) (q r)
+
+-- what the peer's calls see then is quiet
+abbrev pub Keeps : Part → Dds → Type 0
+Keeps old new = AllQuiet old.dds.readers new.readers
 
 keeps_same : (old : Part) (new : Dds) → new ≡ old.dds → Keeps old new
-keeps_same old new is = subst (λ (d : Dds). Keeps old d) (sym is) (writers_same old.dds.readers)
+keeps_same old new is = subst (λ (d : Dds). Keeps old d) (sym is) (all_quiet old.dds.readers)
 
 keeps_itself : (old : Part) → Keeps old old.dds
-keeps_itself old = writers_same old.dds.readers
+keeps_itself old = all_quiet old.dds.readers
 
 keeps_watch : (old : Part) (after : Watched) → Keeps old (record old.dds { watch = after })
-keeps_watch old after = writers_same old.dds.readers
+keeps_watch old after = all_quiet old.dds.readers
 
 keeps_look : (old : Part) (r : ℕ) (seen : Seen) → Keeps old (after_look old r seen)
-keeps_look old r seen = put_reader old.dds.readers r (record (own_reader old r) { seen = seen }) refl
+keeps_look old r seen =
+    put_quiet old.dds.readers r (record (own_reader old r) { seen = seen }) (record { qos = refl; happened = inl refl })
 
 keeps_matches : (old : Part) (r : ℕ) → Keeps old (after_matches_look old r)
 keeps_matches old r =
-    put_reader old.dds.readers r (reader_looked_at (own_proxies old r) (own_reader old r)) refl
+    put_quiet old.dds.readers r (reader_looked_at (own_proxies old r) (own_reader old r))
+    (record { qos = refl; happened = inl refl })
 
 ruleset kept_calls = (keeps_itself, keeps_watch, keeps_look, keeps_matches)
 
@@ -214,46 +256,59 @@ condition_kept entry old k new enters None test selection reply a =
 
 reads_kept : (old : Part) (k : ℕ) (samples : List SamplePosition) → Keeps old (with_happening old k (HasRead samples))
 reads_kept old k samples =
-    put_reader old.dds.readers k
-    (record (own_reader old k) { happened = HasRead samples ∷ (own_reader old k).happened }) refl
+    put_quiet old.dds.readers k
+    (record (own_reader old k) { happened = HasRead samples ∷ (own_reader old k).happened })
+    (record { qos = refl; happened = inr (HasRead samples, refl, refl, refl) })
 
 takes_kept : (old : Part) (k : ℕ) (samples : List SamplePosition) → Keeps old (with_happening old k (Took samples))
 takes_kept old k samples =
-    put_reader old.dds.readers k
-    (record (own_reader old k) { happened = Took samples ∷ (own_reader old k).happened }) refl
+    put_quiet old.dds.readers k
+    (record (own_reader old k) { happened = Took samples ∷ (own_reader old k).happened })
+    (record { qos = refl; happened = inr (Took samples, refl, refl, refl) })
 
 parted_joined : (publication : Option ℕ) (now : ℕ) (h : List Happening)
     → joined_in (happened_after publication now h) ≡ joined_in h
 parted_joined None now h = refl
 parted_joined (Some w) now h = joined-parted w now h
 
--- no reader meets a writer by the telling
-abbrev MeetsNoWriter : Telling → Type 0
-MeetsNoWriter (MeetWriter r w as_writer) = ⊥
-MeetsNoWriter other = Unit {0}
+-- no reader meets a writer by the telling, or is told that one has left
+abbrev TellsQuietly : Telling → Type 0
+TellsQuietly (MeetWriter r w as_writer) = ⊥
+TellsQuietly (UnmatchWriter r w) = ⊥
+TellsQuietly other = Unit {0}
 
-telling_kept : (old : Part) (t : Telling) → MeetsNoWriter t → Keeps old (seen_after_telling old t)
+telling_kept : (old : Part) (t : Telling) → TellsQuietly t → Keeps old (seen_after_telling old t)
 telling_kept old (MatchReader w v reliable) is = keeps_itself old
 telling_kept old (UnmatchReader w v) is = keeps_itself old
-telling_kept old (MatchWriter k w) is = put_reader old.dds.readers k (reader_joined (own_reader old k) w) refl
-telling_kept old (UnmatchWriter k w) is =
-    put_reader old.dds.readers k (reader_left (own_reader old k) w (parted_at old k w))
-    (as_joined (own_reader old k) (parted_at old k w)
-    (parted_joined (publication_among (own_proxies old k) w) old.dds.moment (own_reader old k).happened))
+telling_kept old (MatchWriter k w) is =
+    put_quiet old.dds.readers k (reader_joined (own_reader old k) w) (record { qos = refl; happened = inl refl })
+telling_kept old (UnmatchWriter k w) is = absurd is
 telling_kept old (MeetReader w v reliable) is = keeps_itself old
 telling_kept old (MeetWriter k w as_writer) is = absurd is
 
-told_kept : (t : Telling) → MeetsNoWriter t → (answer : Reply) (old : Part) (reply : Reply) (new : Dds)
+told_kept : (t : Telling) → TellsQuietly t → (answer : Reply) (old : Part) (reply : Reply) (new : Dds)
     → AnswersTelling t answer old reply new → Keeps old new
 told_kept t is answer old (Refused code) new a = keeps_same old new a.2
 told_kept t is answer old reply new a = subst (λ (d : Dds). Keeps old d) (sym a.2) (telling_kept old t is)
 
--- so does each call by which no reader meets a writer
-abbrev CallsNoWriter : Call → Type 0
-CallsNoWriter (call.MeetWriter r far) = ⊥
-CallsNoWriter other = Unit {0}
+-- a reader that is told that a writer has left has the same writers
+parted_writers : (old : Part) (k : ℕ) (w : Endpoint) (answer reply : Reply) (new : Dds)
+    → AnswersTelling (UnmatchWriter k w) answer old reply new → SameWriters old.dds.readers new.readers
+parted_writers old k w answer (Refused code) new a =
+    subst (λ (d : Dds). SameWriters old.dds.readers d.readers) (sym a.2) (writers_same old.dds.readers)
+parted_writers old k w answer reply new a =
+    subst (λ (d : Dds). SameWriters old.dds.readers d.readers) (sym a.2)
+    (put_reader old.dds.readers k (reader_left (own_reader old k) w (parted_at old k w))
+    (as_joined (own_reader old k) (parted_at old k w)
+    (parted_joined (publication_among (own_proxies old k) w) old.dds.moment (own_reader old k).happened)))
 
-called_kept : (tests : Tests) (old : Part) (c : Call) (reply : Reply) (new : Dds) → CallsNoWriter c
+-- so is each call by which no reader meets a writer, or is told that one has left
+abbrev pub CallsQuietly : Call → Type 0
+CallsQuietly (call.MeetWriter r far) = ⊥
+CallsQuietly (call.UnmatchWriter r w) = ⊥
+CallsQuietly other = Unit {0}
+
+pub called_kept : (tests : Tests) (old : Part) (c : Call) (reply : Reply) (new : Dds) → CallsQuietly c
     → Answers tests old c reply new → Keeps old new
 called_kept tests old (call.Register v key) reply new is a = memory_kept _ _ _ _ old reply new a
 called_kept tests old (call.Write v key value) reply new is a = done_kept _ reply old new a
@@ -281,7 +336,7 @@ called_kept tests old (call.MatchReader v r greeted) reply new is a =
     told_kept (reader_told old v r) tt Done old reply new a
 called_kept tests old (call.UnmatchReader v r) reply new is a = told_kept (UnmatchReader v r) tt Done old reply new a
 called_kept tests old (call.MatchWriter v w) reply new is a = told_kept (MatchWriter v w) tt _ old reply new a
-called_kept tests old (call.UnmatchWriter v w) reply new is a = told_kept (UnmatchWriter v w) tt Done old reply new a
+called_kept tests old (call.UnmatchWriter v w) reply new is a = absurd is
 called_kept tests old (call.MeetReader v far greeted) reply new is a =
     told_kept (far_reader_told v far) tt Done old reply new a
 called_kept tests old (call.MeetWriter v far) reply new is a = absurd is
@@ -306,8 +361,9 @@ told_writers : (r : ℕ) (part : Part) (e : Entity) (status : Status)
     → writers_at (told_of part e status).dds.readers r ≡ writers_at part.dds.readers r
 told_writers r part entity.Participant status = refl
 told_writers r part (entity.Writer n) status = refl
-told_writers r part (entity.Reader n) (SubscriptionMatched values) = keeps_matches part n r
-told_writers r part (entity.Reader n) status = keeps_look part n _ r
+told_writers r part (entity.Reader n) (SubscriptionMatched values) =
+    as_writers part.dds.readers _ (keeps_matches part n) r
+told_writers r part (entity.Reader n) status = as_writers part.dds.readers _ (keeps_look part n _) r
 
 end_writers : (before part : Part) → SameWriters part.dds.readers (at_end before part).dds.readers
 end_writers before part r = end_keeps (λ (p : Part). writers_at p.dds.readers r) (told_writers r) before part
@@ -708,20 +764,26 @@ call_apart tests old (call.MeetReader w far greeted) Done new h r t =
     still_apart old new (call_count tests old (call.MeetReader w far greeted) Done new h)
     (ap (λ (x : Rtps). x.names.writers) h.rtps)
     (λ n. ap (λ (x : Rtps). writers_in (numbered x.readers n [])) h.rtps)
-    (called_kept tests old (call.MeetReader w far greeted) Done new.dds tt h.answers) r t
+    (as_writers old.dds.readers new.dds.readers
+    (called_kept tests old (call.MeetReader w far greeted) Done new.dds tt h.answers)) r t
 call_apart tests old (call.MeetReader w far greeted) reply new h r t =
     still_apart old new (call_count tests old (call.MeetReader w far greeted) reply new h)
     (ap (λ (x : Rtps). x.names.writers) h.rtps)
     (λ n. ap (λ (x : Rtps). writers_in (numbered x.readers n [])) h.rtps)
-    (called_kept tests old (call.MeetReader w far greeted) reply new.dds tt h.answers) r t
+    (as_writers old.dds.readers new.dds.readers
+    (called_kept tests old (call.MeetReader w far greeted) reply new.dds tt h.answers)) r t
+call_apart tests old (call.UnmatchWriter k w) reply new h r t =
+    let s : SameKnown old.rtps new.rtps = call_known tests old 0 (call.UnmatchWriter k w) reply new tt h in
+    still_apart old new (call_count tests old (call.UnmatchWriter k w) reply new h)
+    (ap (λ (n : Names). n.writers) s.names) s.writers (parted_writers old k w Done reply new.dds h.answers) r t
 call_apart tests old c reply new h r t =
     let s : SameKnown old.rtps new.rtps = call_known tests old 0 c reply new tt h in
     still_apart old new (call_count tests old c reply new h) (ap (λ (n : Names). n.writers) s.names) s.writers
-    (called_kept tests old c reply new.dds tt h.answers) r t
+    (as_writers old.dds.readers new.dds.readers (called_kept tests old c reply new.dds tt h.answers)) r t
 
 -- ---- the machine
 
-abbrev PartApart : Part → Type 0
+abbrev pub PartApart : Part → Type 0
 PartApart p = (r : ℕ) → TellsApart p r
 
 end_apart : (before part : Part) → PartApart part → PartApart (at_end before part)
@@ -741,7 +803,7 @@ changed_apart : (m : Machine) (peer : ℕ) (after : Part) (new : Machine)
 changed_apart m peer after new is all here =
     subst (λ (x : Machine). AllTellApart x) (sym is) (part_apart m peer after all here)
 
-moved_apart : (g : Grounds) (old : Part) (ms : List Move) (new : Part) → AreMoves g old ms new → PartApart old
+pub moved_apart : (g : Grounds) (old : Part) (ms : List Move) (new : Part) → AreMoves g old ms new → PartApart old
     → PartApart new
 moved_apart g old ms new h all r =
     let s : SameKnown old.rtps new.rtps = moves_known g old ms new h in

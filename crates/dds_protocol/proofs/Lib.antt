@@ -97,3 +97,4 @@ pub mod Coming
 pub mod Meetings
 pub mod Familiar
 pub mod Joining
+pub mod OfMatched

@@ -329,7 +329,7 @@ here_or_below : (n k : ℕ) (here : Bool) (below : Option ℕ) (rows : List Writ
 here_or_below n k true below rows h later = let same : n ≡ k = cc in (omega arith, omega arith)
 here_or_below n k false below rows h later = let within = later h in (omega arith, omega arith)
 
-publication-within : (n k : ℕ) (rows : List WriterProxy) (w : Endpoint) → publication_from n rows w ≡ Some k
+pub publication-within : (n k : ℕ) (rows : List WriterProxy) (w : Endpoint) → publication_from n rows w ≡ Some k
     → (n ≤ k) × (k < n + length rows)
 publication-within n k [] w h = absurd cc
 publication-within n k (row ∷ rows) w h =

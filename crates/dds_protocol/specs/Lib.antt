@@ -28,3 +28,4 @@ pub mod Coming
 pub mod Meetings
 pub mod Familiar
 pub mod Joining
+pub mod Entered

@@ -11,6 +11,7 @@ ghost use Rattle.dds_protocol.specs.Closed.{BestEffortAsDropped, ClosedAcknowled
 ghost use Rattle.dds_protocol.specs.Coming.{ComesAsPart, ComesBounded, ComesSound, ComesUsed, OpensSoundFirst, OpensUsedFirst};
 ghost use Rattle.dds_protocol.specs.DueMessages.{AreSent, Due, packet_of};
 ghost use Rattle.dds_protocol.specs.Dues.{CallsStayDue};
+ghost use Rattle.dds_protocol.specs.Entered.{OpensOfMatched, RunsOfMatched, StaysOfMatched};
 ghost use Rattle.dds_protocol.specs.Familiar.{RunsFamiliar, StaysFamiliar};
 ghost use Rattle.dds_protocol.specs.Fresh.{OpensUsed, StepsUsed};
 ghost use Rattle.dds_protocol.specs.Greetings.{OpensAnswered, RunsAnswered, StaysAnswered};
@@ -146,6 +147,19 @@ pub fn readers_tell_writers_apart()
 {
     owner_is_found();
 }
+
+/// What happened at a reader is of writers that it had: each entry names one that it was opened with or had met before. So of
+/// a writer that joins nothing was entered before.
+///
+/// RTPS 2.5, 8.4.10.3; DDS 1.4, 2.2.2.5.5 (publication_handle).
+pub fn entries_are_of_matched_writers()
+    // It is so at the opening,
+    ensures opening { OpensOfMatched }
+    // after every event,
+    ensures step { StaysOfMatched }
+    // and after every run of a roster.
+    ensures run { RunsOfMatched }
+{}
 
 /// A peer may meet writers and readers that no configuration lists, by calls, at any moment, if the roster has them: under
 /// the name that is told, with the GUID that is told, of its own end's topic.
