@@ -563,8 +563,8 @@ writer_met roster peer old new reader far is h k = record {
 -- ---- after an event
 
 called_known : (roster : Config) (tests : Tests) (peer : ℕ) (old : Part) (c : Call) (reply : Reply) (new : Part)
-    → CallStep tests old c reply new → MeetsByRoster roster peer (event.Call c) → KnowsByRoster roster peer old
-    → KnowsByRoster roster peer new
+    → CallStep tests old c reply new → MeetsByRoster roster peer (event.Call c) reply
+    → KnowsByRoster roster peer old → KnowsByRoster roster peer new
 called_known roster tests peer old (call.MeetReader w far greeted) Done new h is k =
     reader_met roster peer old new w far h.rtps is k
 called_known roster tests peer old (call.MeetReader w far greeted) reply new h is k =

@@ -14,6 +14,7 @@ use Rattle.dds_machine.specs.declared.call.Call.TheVariants.{MeetReader, MeetWri
 use Rattle.dds_machine.specs.declared.far.FarReader.{FarReader}
 use Rattle.dds_machine.specs.declared.far.FarWriter.{FarWriter}
 use Rattle.dds_machine.specs.declared.reply.Reply.{Reply}
+use Rattle.dds_machine.specs.declared.reply.Reply.TheVariants.{Done, InstanceHandle}
 use Rattle.dds_machine.specs.Naming.{is_name_among}
 use Rattle.dds_machine.specs.Numbered.{HasNumber}
 use Rattle.dds_machine.specs.Opening.{coming_part}
@@ -47,11 +48,12 @@ pub record HasFarWriter (roster : Config) (peer reader : ℕ) (far : FarWriter) 
   pub there : IsWriter roster far.guid.prefix far.guid.entity far.endpoint
   pub same_topic : there.end.topic ≡ own.topic
 
--- the peer of this number meets nobody by the event but whom the roster has
-abbrev pub MeetsByRoster : Config → ℕ → Event → Type 0
-MeetsByRoster roster peer (event.Call (MeetReader writer far greeted)) = HasFarReader roster peer writer far
-MeetsByRoster roster peer (event.Call (MeetWriter reader far)) = HasFarWriter roster peer reader far
-MeetsByRoster roster peer other = Unit {0}
+-- the peer of this number meets nobody by the event, which is answered so, but whom the roster has: by a call that is
+-- refused nobody is met
+abbrev pub MeetsByRoster : Config → ℕ → Event → Reply → Type 0
+MeetsByRoster roster peer (event.Call (MeetReader writer far greeted)) Done = HasFarReader roster peer writer far
+MeetsByRoster roster peer (event.Call (MeetWriter reader far)) (InstanceHandle handle) = HasFarWriter roster peer reader far
+MeetsByRoster roster peer other reply = Unit {0}
 
 -- a reader that the peer's writer of this number knows is of the writer's topic, and as reliable as it is known
 pub record IsReaderFor (roster : Config) (peer writer : ℕ) (known : TopicReader) : Type 0 where
@@ -103,7 +105,7 @@ ComesByRoster = (roster : Config) (number : ℕ) (p : PeerConfig) → IsNumbered
 -- .. and after each event by which a peer meets nobody but whom the roster has
 abbrev pub StepsByRoster : Type 0
 StepsByRoster = (roster : Config) (tests : Tests) (old : Peer) (event : Event) (reply : Reply) (new : Peer)
-    → EventStep roster tests old event reply new → MeetsByRoster roster old.number event
+    → EventStep roster tests old event reply new → MeetsByRoster roster old.number event reply
     → KnowsByRoster roster old.number old.part → KnowsByRoster roster old.number new.part
 
 -- no telling by the roster is refused for the name
