@@ -31,10 +31,11 @@ pub enum Line {
 }
 
 fn peer(words: &[&str]) -> Option<Line> {
-    let [prefix] = words else {
-        return None;
-    };
-    Some(Line::Setup(SetupLine::Peer(guid_prefix(prefix)?)))
+    match words {
+        [prefix] => Some(Line::Setup(SetupLine::Peer(guid_prefix(prefix)?))),
+        [prefix, "later"] => Some(Line::Setup(SetupLine::Later(guid_prefix(prefix)?))),
+        _ => None,
+    }
 }
 
 fn writer(words: &[&str]) -> Option<Line> {

@@ -11,6 +11,8 @@ use Rattle.dds_base.specs.declared.config.WriterConfig.{WriterConfig}
 use Rattle.dds_base.specs.declared.endpoint.Endpoint.{Endpoint}
 use Rattle.dds_base.specs.Matched.{is_reliable_reader}
 use Rattle.dds_machine.specs.declared.call.Call.TheVariants.{MeetReader, MeetWriter}
+use Rattle.dds_machine.specs.declared.event.WorldEvent.{WorldEvent}
+use Rattle.dds_machine.specs.declared.event.WorldEvent.TheVariants as world
 use Rattle.dds_machine.specs.declared.far.FarReader.{FarReader}
 use Rattle.dds_machine.specs.declared.far.FarWriter.{FarWriter}
 use Rattle.dds_machine.specs.declared.reply.Reply.{Reply}
@@ -54,6 +56,11 @@ abbrev pub MeetsByRoster : Config → ℕ → Event → Reply → Type 0
 MeetsByRoster roster peer (event.Call (MeetReader writer far greeted)) Done = HasFarReader roster peer writer far
 MeetsByRoster roster peer (event.Call (MeetWriter reader far)) (InstanceHandle handle) = HasFarWriter roster peer reader far
 MeetsByRoster roster peer other reply = Unit {0}
+
+-- nor does any peer by an event of the network
+abbrev pub MayBe : Config → WorldEvent → Reply → Type 0
+MayBe roster (world.Call peer call) reply = MeetsByRoster roster peer (event.Call call) reply
+MayBe roster other reply = Unit {0}
 
 -- a reader that the peer's writer of this number knows is of the writer's topic, and as reliable as it is known
 pub record IsReaderFor (roster : Config) (peer writer : ℕ) (known : TopicReader) : Type 0 where
