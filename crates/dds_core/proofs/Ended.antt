@@ -110,8 +110,8 @@ module _ {F L : Type 0} (notices : L → List Notice) (capacity : L → ℕ) (be
       → is_any old.listeners ≡ false → Steps notices capacity becomes tests old ev output
       (record { filtered = new; listeners = old.listeners })
   steps_untold tests old ev output new h none = record {
-    step = λ given config peer s sound met.
-        let r = h.step config peer s.stands sound met in
+    step = λ given config peer s sound.
+        let r = h.step config peer s.stands sound in
         let after : Peer = r.0 in
         let kept : after.part.dds.listeners ≡ peer.part.dds.listeners =
         keeps_listeners config tests peer ev output after r.1 in
@@ -141,8 +141,8 @@ module _ {F L : Type 0} (notices : L → List Notice) (capacity : L → ℕ) (be
       → new.filters ≡ mid.filters → Steps notices capacity becomes tests old ev output
       (record { filtered = new; listeners = after })
   steps_told tests old ev output mid new after marks h marked tells same = record {
-    step = λ given config peer s sound met.
-        let r = h.step config peer s.stands sound met in
+    step = λ given config peer s sound.
+        let r = h.step config peer s.stands sound in
         let stepped : Peer = r.0 in
         let kept : stepped.part.dds.listeners ≡ peer.part.dds.listeners =
         keeps_listeners config tests peer ev output stepped r.1 in

@@ -31,8 +31,8 @@ pub steps : {F : Type 0} (tests : Tests) (old : FilteredKept F) (ev : Event) (ou
     → SoundStepsBy tests old.peer ev output new
     → Steps tests old ev output (record { peer = new; filters = old.filters })
 steps tests old ev output new h = record {
-  step = λ config peer s sound met.
-      let r = h config peer s.stands sound met in (
+  step = λ config peer s sound.
+      let r = h config peer s.stands sound in (
         r.0,
         r.1,
         record {

@@ -5,8 +5,6 @@ pub mod CallSteps
 pub mod AssertSteps
 pub mod StrengthSteps
 pub mod ReaderSteps
-pub mod MetReaders
-pub mod MetWriters
 pub mod MatchedWriters
 pub mod ChangesDue
 pub mod Ends
@@ -45,7 +43,6 @@ pub mod Notified
 pub mod WriterNotified
 pub mod Ended
 pub mod InRosters
-pub mod Coming
 pub mod Counted
 pub mod ToNobody
 pub mod MissLaws

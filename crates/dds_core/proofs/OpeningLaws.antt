@@ -6,14 +6,10 @@ use Rattle.dds_base.specs.declared.config.PeerConfig.{PeerConfig}
 use Rattle.dds_base.specs.declared.config.WriterConfig.{WriterConfig}
 use Rattle.dds_base.specs.declared.config.ReaderConfig.{ReaderConfig}
 use Rattle.dds_base.specs.Checked.{check_refusal}
-use Rattle.dds_base.specs.Matched.{any_writer}
-use Rattle.dds_base.specs.declared.config.Config.{Config}
+use Rattle.dds_base.specs.Matched.{any_reader, any_writer}
 use Rattle.dds_conditions.specs.Watched.{Watched, opened}
-use Rattle.dds_machine.specs.Opening.{matched_writers, reader_from, reader_names as all_readers, writer_from, writer_names as all_writers}
-use Rattle.dds_protocol.specs.Claims.{IsNumbered}
-use Rattle.dds_protocol.specs.Coming.{coming_peer}
+use Rattle.dds_machine.specs.Opening.{opening_reader, opening_writer, matched_writers, opening_part, reader_names as all_readers, writer_names as all_writers}
 use Rattle.dds_protocol.specs.Opening.{opening_peers}
-use Rattle.dds_protocol.specs.Roster.{IsRoster}
 use Rattle.dds_machine.specs.Part.{Names, Writer, Reader, WriterProxy, no_writer, no_reader}
 use Rattle.rtps_reader.specs.Tracked.{fresh}
 use Rattle.dds_protocol.specs.Contact.{no_contact}
@@ -21,20 +17,21 @@ use Rattle.dds_protocol.specs.Protocol.{knows_nothing}
 use Rattle.dds_protocol.specs.Peer.{Peer, no_peer}
 use Rattle.dds_protocol.proofs.Rosters.{configs_are_rosters}
 use Rattle.dds_ends.specs.Kept.{WriterKept, ReaderKept}
+use Rattle.dds_ends.specs.declared.matching.TopicName.{TopicName}
 use Rattle.dds_ends.specs.declared.matching.WriterName.{WriterName}
-use Rattle.dds_ends.specs.EndNames.{topic_names, writer_name, writer_names}
+use Rattle.dds_ends.specs.EndNames.{topic_name, topic_names, writer_name, writer_names}
 use Rattle.dds_ends.specs.Identity.{ReaderIdentity, WriterIdentity, writer_identity, reader_identity, configured_writer, configured_reader, IsConfiguredReader, IsWriterOf}
-use Rattle.dds_ends.specs.MatchedEnds.{AreKnownReaders, AreKnownWriters, IsWriterNamed}
+use Rattle.dds_ends.specs.MatchedEnds.{AreKnownReaders, AreKnownWriters, IsKnownReader, IsWriterNamed}
 use Rattle.dds_core.specs.Identity.{AreRowsOnce}
 use Rattle.dds_core.specs.Kept.{PeerKept}
-use Rattle.dds_core.specs.Opening.{InRostersAt, opening_peer}
+use Rattle.dds_core.specs.Opening.{opening_peer}
 use Rattle.dds_ends.specs.OpeningEnds.{OpensWriter, OpensReader}
-use Rattle.dds_core.specs.OpeningEnds.{HasFrom, OpensEach, OpensCore, begun}
+use Rattle.dds_core.specs.OpeningEnds.{OpensEach, OpensCore}
 use Rattle.dds_ends.specs.Standing.{WriterStands, ReaderStands, WritersStand, ReadersStand}
 use Rattle.dds_core.specs.Standing.{StandsFor}
-use Rattle.dds_ends.proofs.Lists.{element, get-map}
-use Rattle.dds_ends.proofs.MatchedAt.{all_opened, ends_opened}
-use Rattle.dds_ends.proofs.Numbered.{IsRest, is_told}
+use Rattle.dds_ends.proofs.Lists.{get-map}
+use Rattle.dds_ends.proofs.MatchedAt.{ends_opened}
+use Rattle.dds_ends.proofs.Numbered.{is_told}
 use Rattle.dds_ends.proofs.Once.{writers_once}
 use Rattle.dds_ends.proofs.Alike.{last-cases, partner}
 use Rattle.dds_core.proofs.Tellable.{tellable_opening}
@@ -100,25 +97,25 @@ mapped_at f [] i x d at = absurd cc
 mapped_at f (a ∷ xs) zero x d at = ap f (sym (same_Some a x at))
 mapped_at f (a ∷ xs) (suc i) x d at = mapped_at f xs i x d at
 
-writers_stand : (first : ℕ) (peers : List PeerConfig) (ws : List WriterConfig) (kept : List WriterKept)
-    → OpensEach (OpensWriter first peers) ws kept
-    → WritersStand kept (map (writer_from first peers) ws) (λ n r. no_contact)
-writers_stand first peers ws kept opened = record {
-  count = length-map ws (writer_from first peers) ∙ sym opened.count;
+writers_stand : (peers : List PeerConfig) (ws : List WriterConfig) (kept : List WriterKept)
+    → OpensEach (OpensWriter peers) ws kept
+    → WritersStand kept (map (opening_writer peers) ws) (λ n r. no_contact)
+writers_stand peers ws kept opened = record {
+  count = length-map ws (opening_writer peers) ∙ sym opened.count;
   each = λ i k at.
       let w = partner ws kept i k opened.count at in
-      subst (λ (v : Writer). WriterStands k v (λ r. no_contact)) (mapped_at (writer_from first peers) ws i w.0 no_writer w.1)
+      subst (λ (v : Writer). WriterStands k v (λ r. no_contact)) (mapped_at (opening_writer peers) ws i w.0 no_writer w.1)
       (opened.each i w.0 k w.1 at).stands;
 }
 
-readers_stand : (first : ℕ) (peers : List PeerConfig) (rs : List ReaderConfig) (kept : List ReaderKept)
-    → OpensEach (OpensReader first peers) rs kept
-    → ReadersStand kept (map (λ (r : ReaderConfig). matched_writers r.topic first peers) rs)
-    (map (reader_from first peers) rs)
+readers_stand : (peers : List PeerConfig) (rs : List ReaderConfig) (kept : List ReaderKept)
+    → OpensEach (OpensReader peers) rs kept
+    → ReadersStand kept (map (λ (r : ReaderConfig). matched_writers r.topic 1 peers) rs)
+    (map (opening_reader peers) rs)
     knows_nothing
-readers_stand first peers rs kept opens =
-    let proxies : ReaderConfig → List WriterProxy = λ r. matched_writers r.topic first peers in
-    let opened : ReaderConfig → Reader = reader_from first peers in
+readers_stand peers rs kept opens =
+    let proxies : ReaderConfig → List WriterProxy = λ r. matched_writers r.topic 1 peers in
+    let opened : ReaderConfig → Reader = opening_reader peers in
     record {
       rows = length-map rs proxies ∙ sym opens.count;
       count = length-map rs opened ∙ sym opens.count;
@@ -132,68 +129,57 @@ readers_stand first peers rs kept opens =
 
 -- ---- the peer of the opening
 
+abbrev begun : List PeerConfig → PeerConfig → ℕ → Peer
+begun peers p n = record { number = n; part = opening_part peers p; known = knows_nothing; delivered = [] }
+
 opening_at : (peers : List PeerConfig) (n : ℕ) (ps : List PeerConfig) (i : ℕ) (p : PeerConfig) → slice_get ps i ≡ Some p
-    → record (begun 1 peers p 0) { number = n + i } ≡ get_or (opening_peers peers n ps) i no_peer
+    → begun peers p (n + i) ≡ get_or (opening_peers peers n ps) i no_peer
 opening_at peers n [] i p at = absurd cc
 opening_at peers n (q ∷ ps) zero p at =
-    let number : n + 0 ≡ n = omega arith in ap (λ (k : ℕ). record (begun 1 peers p 0) { number = k }) number
-    ∙ ap (λ (x : PeerConfig). record (begun 1 peers x 0) { number = n }) (sym (same_Some q p at))
+    let number : n + 0 ≡ n = omega arith in ap (λ (k : ℕ). begun peers p k) number
+    ∙ ap (λ (x : PeerConfig). begun peers x n) (sym (same_Some q p at))
 opening_at peers n (q ∷ ps) (suc i) p at =
-    let number : n + suc i ≡ n + 1 + i = omega arith in ap (λ (k : ℕ). record (begun 1 peers p 0) { number = k }) number
+    let number : n + suc i ≡ n + 1 + i = omega arith in ap (λ (k : ℕ). begun peers p k) number
     ∙ opening_at peers (n + 1) ps i p at
 
-opening_is : (config : Config) (index : ℕ) (own : PeerConfig) → slice_get config.peers index ≡ Some own
-    → begun 1 config.peers own index ≡ opening_peer config (index + 1)
-opening_is config index own at =
+opening_is : (peers : List PeerConfig) (index : ℕ) (own : PeerConfig) → slice_get peers index ≡ Some own
+    → begun peers own (1 + index) ≡ opening_peer (record { peers = peers }) (index + 1)
+opening_is peers index own at =
     let number : suc index ≡ index + 1 = omega arith in
-    opening_at config.peers 1 config.peers index own at ∙ ap (λ (k : ℕ). opening_peer config k) number
+    opening_at peers 1 peers index own at ∙ ap (λ (k : ℕ). opening_peer (record { peers = peers }) k) number
 
--- the configuration has its own peers from 1 on
-has_own : (config : Config) → HasFrom config 1 config.peers
-has_own config i p at =
-    let same : i ≡ 1 + i - 1 = omega arith in
-    (omega arith, subst (λ (k : ℕ). slice_get config.peers k ≡ Some p) same at)
-
--- a peer of the configuration stands for its opening in it
-pub opens_in : (config : Config) (index : ℕ) (kept : PeerKept) → OpensCore 1 config.peers index kept
-    → check_refusal config.peers ≡ None → index < length config.peers
-    → StandsFor kept config (opening_peer config (index + 1))
-opens_in config index kept opens checked within =
-    let own = element config.peers index within in
-    subst (λ (p : Peer). StandsFor kept config p) (opening_is config index own.0 own.1)
-    (opens config own.0 (configs_are_rosters config checked) (has_own config) own.1)
-
--- the roster has the one peer that comes
-has_one : (roster : Config) (number : ℕ) (p : PeerConfig) → IsNumbered roster.peers number p
-    → HasFrom roster number (p ∷ [])
-has_one roster number p at zero q is =
-    let same : number ≡ number + 0 = omega arith in
-    subst (λ (k : ℕ). IsNumbered roster.peers k q) same
-    (subst (λ (x : PeerConfig). IsNumbered roster.peers number x) (same_Some p q is) at)
-has_one roster number p at (suc i) q is = absurd cc
-
--- it stands for its coming
-pub comes_in : (config : Config) (number : ℕ) (kept : PeerKept) → OpensCore number config.peers 0 kept
-    → InRostersAt config number (λ roster p. StandsFor kept roster (coming_peer number p))
-comes_in config number kept opens roster p one good at =
-    let own : OpensCore number (p ∷ []) 0 kept = subst (λ (ps : List PeerConfig). OpensCore number ps 0 kept) one opens in
-    let same : number + 0 ≡ number = omega arith in
-    subst (λ (k : ℕ). StandsFor kept roster (record (coming_peer number p) { number = k })) same
-    (own roster p good (has_one roster number p at) refl)
+is_numbered : (peers : List PeerConfig) (index : ℕ) (own : PeerConfig) → slice_get peers index ≡ Some own
+    → slice_get peers (1 + index - 1) ≡ Some own
+is_numbered peers index own at =
+    let same : index ≡ 1 + index - 1 = omega arith in subst (λ (k : ℕ). slice_get peers k ≡ Some own) same at
 
 -- the readers that a writer is opened with are those of its topic
-readers_opened : (all : List PeerConfig) (topic first : ℕ) (peers : List PeerConfig) → IsRest all first peers
-    → AreKnownReaders all topic (topic_names topic first peers)
-readers_opened all topic first peers rest = all_opened all topic first peers rest
+readers_opened : (peers : List PeerConfig) (topic : ℕ) → AreKnownReaders peers topic (topic_names topic peers)
+readers_opened peers topic i k at =
+    let f =
+    is_told peers (λ (p : PeerConfig). p.readers) any_reader (λ (r : ReaderConfig). r.topic) topic_name topic i k at in
+    subst (λ (x : TopicName). IsKnownReader peers topic x) f.told
+    (record {
+      name_is = record {
+        is = record {
+          peer = f.peer;
+          at_peer = f.at_peer;
+          end = f.end;
+          at_reader = f.at_end;
+          same_topic = f.same_topic;
+        };
+        same_prefix = refl;
+        same_entity = refl;
+      };
+      as_reliable = refl;
+    })
 
 -- the writers that a reader is opened with are those of its topic
-writers_opened : (all : List PeerConfig) (topic first : ℕ) (peers : List PeerConfig) → IsRest all first peers
-    → AreKnownWriters all topic (writer_names topic first peers)
-writers_opened all topic first peers rest i n at =
+writers_opened : (peers : List PeerConfig) (topic : ℕ) → AreKnownWriters peers topic (writer_names topic peers)
+writers_opened peers topic i n at =
     let f =
-    is_told all (λ (p : PeerConfig). p.writers) any_writer (λ (w : WriterConfig). w.topic) writer_name topic first peers
-    rest i n at in
-    subst (λ (x : WriterName). IsWriterNamed all topic x) f.told
+    is_told peers (λ (p : PeerConfig). p.writers) any_writer (λ (w : WriterConfig). w.topic) writer_name topic i n at in
+    subst (λ (x : WriterName). IsWriterNamed peers topic x) f.told
     (record {
       peer = f.peer;
       at_peer = f.at_peer;
@@ -204,26 +190,24 @@ writers_opened all topic first peers rest i n at =
       same_topic = f.same_topic;
     })
 
--- a writer at its opening is one of the roster
-opened_is : (all : List PeerConfig) (first : ℕ) (peers : List PeerConfig) (w : WriterConfig) → IsRest all first peers
-    → IsWriterOf all w (configured_writer first peers w)
-opened_is all first peers w rest = record {
+-- a writer at its opening is one of the configuration
+opened_is : (peers : List PeerConfig) (w : WriterConfig) → IsWriterOf peers w (configured_writer peers w)
+opened_is peers w = record {
   entity = refl;
   autodispose = refl;
   max_value = refl;
-  known = readers_opened all w.topic first peers rest;
-  ends = ends_opened all w.topic first peers rest;
+  known = readers_opened peers w.topic;
+  ends = ends_opened peers w.topic;
 }
 
--- a reader at its opening is one of the roster
-opened_reader_is : (all : List PeerConfig) (first : ℕ) (peers : List PeerConfig) (r : ReaderConfig)
-    → IsRest all first peers → IsConfiguredReader all r (configured_reader first peers r)
-opened_reader_is all first peers r rest =
-    record { entity = refl; reliable = refl; writers = writers_opened all r.topic first peers rest }
+-- a reader at its opening is one of the configuration
+opened_reader_is : (peers : List PeerConfig) (r : ReaderConfig) → IsConfiguredReader peers r (configured_reader peers r)
+opened_reader_is peers r =
+    record { entity = refl; reliable = refl; writers = writers_opened peers r.topic }
 
 -- the names of all ends
-abbrev pub all_named : ℕ → List PeerConfig → Names
-all_named first peers = record { writers = all_writers first peers; readers = all_readers first peers }
+abbrev pub all_named : List PeerConfig → Names
+all_named peers = record { writers = all_writers 1 peers; readers = all_readers 1 peers }
 
 -- a peer of this configuration that keeps these
 abbrev pub opened_as : PeerConfig → ℕ → List WriterKept → List ReaderKept → Names → Watched → PeerKept
@@ -236,59 +220,55 @@ opened_as own moment writers readers names watch = record {
   watch = watch;
 }
 
-stands_begun : (roster : Config) (first : ℕ) (peers : List PeerConfig) (index moment : ℕ) (own : PeerConfig)
-    (writers : List WriterKept) (readers : List ReaderKept) (names : Names) (watch : Watched) → IsRoster roster.peers
-    → IsRest roster.peers first peers → IsNumbered roster.peers (first + index) own
-    → moment ≡ 0 → names ≡ all_named first peers
+stands_begun : (peers : List PeerConfig) (index moment : ℕ) (own : PeerConfig) (writers : List WriterKept)
+    (readers : List ReaderKept) (names : Names) (watch : Watched) → check_refusal peers ≡ None
+    → slice_get peers index ≡ Some own
+    → moment ≡ 0 → names ≡ all_named peers
     → watch ≡ opened (length writers) (length readers)
-    → OpensEach (OpensWriter first peers) own.writers writers → OpensEach (OpensReader first peers) own.readers readers
-    → StandsFor (opened_as own moment writers readers names watch) roster (begun first peers own index)
-stands_begun roster first peers index moment own writers readers names watch good rest at begins named watches ws rs = record {
+    → OpensEach (OpensWriter peers) own.writers writers → OpensEach (OpensReader peers) own.readers readers
+    → StandsFor (opened_as own moment writers readers names watch) (record { peers = peers }) (begun peers own (1 + index))
+stands_begun peers index moment own writers readers names watch checked at begins named watches ws rs = record {
   is_peer = record {
-    roster = good;
+    roster = configs_are_rosters (record { peers = peers }) checked;
     own = own;
-    at = at;
+    at = (omega arith, is_numbered peers index own at);
     prefix = refl;
     count = length-map writers writer_identity ∙ ws.count;
     writers = λ i w x at_w at_x.
         let f = get-map writer_identity writers i x at_x in
-        subst (λ (y : WriterIdentity). IsWriterOf roster.peers w y) (sym (ws.each i w f.0 at_w f.1).identity ∙ f.2)
-        (opened_is roster.peers first peers w rest);
+        subst (λ (y : WriterIdentity). IsWriterOf peers w y) (sym (ws.each i w f.0 at_w f.1).identity ∙ f.2)
+        (opened_is peers w);
     reader_count = length-map readers reader_identity ∙ rs.count;
     readers = λ i r x at_r at_x.
         let f = get-map reader_identity readers i x at_x in
-        subst (λ (y : ReaderIdentity). IsConfiguredReader roster.peers r y)
-        (sym (rs.each i r f.0 at_r f.1).identity ∙ f.2)
-        (opened_reader_is roster.peers first peers r rest);
+        subst (λ (y : ReaderIdentity). IsConfiguredReader peers r y) (sym (rs.each i r f.0 at_r f.1).identity ∙ f.2)
+        (opened_reader_is peers r);
     once = λ i x at_x.
         let f = get-map reader_identity readers i x at_x in
         let r = partner own.readers readers i f.0 rs.count f.1 in
         subst (λ (y : ReaderIdentity). AreRowsOnce y.writers) (sym (rs.each i r.0 f.0 r.1 f.1).identity ∙ f.2)
-        (writers_once r.0.topic first peers);
+        (writers_once r.0.topic peers);
   };
   moment = sym begins;
   early = subst (λ (m : ℕ). m < 2 ^ 63) (sym begins) (omega arith);
-  writers = writers_stand first peers own.writers writers ws;
-  readers = readers_stand first peers own.readers readers rs;
+  writers = writers_stand peers own.writers writers ws;
+  readers = readers_stand peers own.readers readers rs;
   names = sym named;
-  tellable = tellable_opening first peers own;
+  tellable = tellable_opening peers own;
   watch =
       sym (watches ∙ (ap (λ (n : ℕ). opened n (length readers)) ws.count
       ∙ ap (λ (n : ℕ). opened (length own.writers) n) rs.count));
 }
 
-pub opens_core : (first : ℕ) (peers : List PeerConfig) (index moment : ℕ) (own : PeerConfig)
-    (writers : List WriterKept) (readers : List ReaderKept) (names : Names) (watch : Watched) → index < length peers
-    → 1 ≤ first → own ≡ get_or peers index own → moment ≡ 0 → names ≡ all_named first peers
-    → watch ≡ opened (length writers) (length readers) → OpensEach (OpensWriter first peers) own.writers writers
-    → OpensEach (OpensReader first peers) own.readers readers
-    → OpensCore first peers index (opened_as own moment writers readers names watch)
-opens_core first peers index moment own writers readers names watch within low is begins named watches ws rs roster p
-    good has at =
-    let own_at : slice_get peers index ≡ Some own =
-    slice_get-get_or peers index own within ∙ ap (λ (x : PeerConfig). Some x) (sym is) in
-    let rest : IsRest roster.peers first peers = record { low = low; there = λ j x there. (has j x there).1 } in
-    subst (λ (x : PeerConfig). StandsFor (opened_as own moment writers readers names watch) roster
-    (begun first peers x index)) (same_Some own p (sym own_at ∙ at))
-    (stands_begun roster first peers index moment own writers readers names watch good rest (has index own own_at)
-    begins named watches ws rs)
+pub opens_core : (peers : List PeerConfig) (index moment : ℕ) (own : PeerConfig) (writers : List WriterKept)
+    (readers : List ReaderKept) (names : Names) (watch : Watched) → index < length peers → check_refusal peers ≡ None
+    → own ≡ get_or peers index own → moment ≡ 0 → names ≡ all_named peers
+    → watch ≡ opened (length writers) (length readers) → OpensEach (OpensWriter peers) own.writers writers
+    → OpensEach (OpensReader peers) own.readers readers
+    → OpensCore peers index (opened_as own moment writers readers names watch)
+opens_core peers index moment own writers readers names watch within checked is begins named watches ws rs =
+    let at : slice_get peers index ≡ Some own =
+    slice_get-get_or peers index own within ∙ ap (λ (p : PeerConfig). Some p) (sym is) in
+    subst (λ (p : Peer). StandsFor (opened_as own moment writers readers names watch) (record { peers = peers }) p)
+    (opening_is peers index own at)
+    (stands_begun peers index moment own writers readers names watch checked at begins named watches ws rs)

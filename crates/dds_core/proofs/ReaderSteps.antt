@@ -38,7 +38,7 @@ use Rattle.dds_core.proofs.Tellable.{tellable_put}
 -- ---- who the writers are
 
 -- what is at an index is what was put there, or what was there
-pub put_or_there : {X : Type 0} (xs : List X) (i j : ℕ) (x y : X) → slice_get (set xs i x) j ≡ Some y
+put_or_there : {X : Type 0} (xs : List X) (i j : ℕ) (x y : X) → slice_get (set xs i x) j ≡ Some y
     → ((i ≡ j) × (x ≡ y)) ⊎ (slice_get xs j ≡ Some y)
 put_or_there [] i j x y at = inr at
 put_or_there (a ∷ xs) zero zero x y at = inl (refl, same_Some x y at)

@@ -1,5 +1,5 @@
 -- What is remembered of conditions that found nothing is right in each state that a peer stands for, and stays so.
-use Rattle.std.proofs.Common.{◌≡◌, ℕ, zero, suc, ◌+◌, ◌≤◌, List, [], length, get_or, Bool, true, false, refl, ap, sym, ◌∙◌, subst, arith, ⊎_elim}
+use Rattle.std.proofs.Common.{◌≡◌, ℕ, zero, suc, ◌+◌, ◌≤◌, List, [], length, get_or, Bool, false, refl, ap, sym, ◌∙◌, subst, arith, ⊎_elim}
 use Rattle.std.specs.Prelude.{All, Contains, Option, Result, Ok, Err, IfOk, OnErr}
 use Rattle.std.proofs.lemmas.List.{get_or_past}
 use Rattle.std.proofs.lemmas.List.Elements.{All-nil}
@@ -19,16 +19,12 @@ use Rattle.dds_notices.specs.declared.notice.Notice.{Notice}
 use Rattle.dds_notices.specs.Listeners.{ByEntity, listener_place, with_entity}
 use Rattle.rtps_reader.specs.Tracked.{Tracked}
 use Rattle.dds_base.specs.declared.endpoint.Endpoint.{Endpoint}
-use Rattle.dds_machine.specs.declared.call.Call.TheVariants.{MeetReader, MeetWriter}
-use Rattle.dds_machine.specs.declared.reply.Reply.{Reply}
 use Rattle.dds_machine.specs.Noticing.{at_end}
 use Rattle.dds_machine.specs.Part.{Part, Reader, WriterProxy, no_reader, own_reader}
 use Rattle.dds_machine.specs.Watching.{Test, Tests, test_of}
 use Rattle.dds_protocol.specs.declared.event.Event.{Event}
-use Rattle.dds_protocol.specs.declared.event.Event.TheVariants as event
 use Rattle.dds_protocol.specs.declared.event.Output.{Output}
 use Rattle.dds_protocol.specs.Filters.{peer_with_filter}
-use Rattle.dds_protocol.specs.Meetings.{MeetsByRoster}
 use Rattle.dds_protocol.specs.Noticing.{peer_at_end, peer_with_place}
 use Rattle.dds_protocol.specs.Peer.{Peer}
 use Rattle.dds_protocol.proofs.GoesOn.{GoesOn, each_goes_on, end_goes_on, longer, no_more}
@@ -36,7 +32,7 @@ use Rattle.dds_core.specs.declared.misses.Miss.{Miss}
 use Rattle.dds_ends.specs.Kept.{ReaderKept}
 use Rattle.dds_core.specs.Kept.{PeerKept}
 use Rattle.dds_core.specs.Listening.{Adds, CoreKept, Sets, StandsFor as CoreStandsFor, Steps}
-use Rattle.dds_core.specs.Remembering.{AddsMiss, AreMisses, IsMiss, Remembers, may_meet}
+use Rattle.dds_core.specs.Remembering.{AddsMiss, AreMisses, IsMiss, Remembers}
 use Rattle.dds_core.specs.Ruling.{IsSound}
 use Rattle.dds_ends.specs.Standing.{ReaderStands}
 use Rattle.dds_core.specs.Standing.{StandsFor}
@@ -149,15 +145,6 @@ still_nothing tests old new miss is goes =
           (no_more before.happened after.happened goes.more count) ∙ is.none (sym count ∙ same));
     }
 
--- by an event by which the peer meets nobody it meets nobody but whom the roster has
-none_met : (roster : Config) (number : ℕ) (ev : Event) (reply : Reply) → may_meet ev ≡ false
-    → MeetsByRoster roster number ev reply
-none_met roster number (event.Call (MeetReader writer far greeted)) reply none =
-    absurd (let clash : true ≡ false = none in cc)
-none_met roster number (event.Call (MeetWriter reader far)) reply none =
-    absurd (let clash : true ≡ false = none in cc)
-none_met roster number other reply none = tt
-
 module _ {F L : Type 0} (notices : L → List Notice) (capacity : L → ℕ) (becomes : L → Notice → L → Type 0)
     (meaning : F → Key → List ℕ → Bool) where
   -- what is remembered is right
@@ -167,16 +154,15 @@ module _ {F L : Type 0} (notices : L → List Notice) (capacity : L → ℕ) (be
       everywhere (tests_of meaning kept.filtered.filters) kept.filtered.peer r.config r.peer misses
       r.stands.stands.stands r.right
 
-  -- what was right before an event by which the peer meets nobody, and is remembered after it
+  -- what was right before an event, and is remembered after it
   pub remembers_on : (old : CoreKept F L) (before misses : List Miss) (ev : Event) (output : Output) (new : CoreKept F L)
       → Remembers notices capacity becomes meaning old before
       → AreMisses (tests_of meaning old.filtered.filters) old.filtered.peer misses
-      → Steps notices capacity becomes (tests_of meaning old.filtered.filters) old ev output new → may_meet ev ≡ false
+      → Steps notices capacity becomes (tests_of meaning old.filtered.filters) old ev output new
       → Remembers notices capacity becomes meaning new misses
-  remembers_on old before misses ev output new r right h none =
+  remembers_on old before misses ev output new r right h =
       let tests : Tests = tests_of meaning old.filtered.filters in
-      let s =
-      h.step r.given r.config r.peer r.stands r.sound (none_met r.config r.peer.number ev output.reply none) in
+      let s = h.step r.given r.config r.peer r.stands r.sound in
       let stepped : Peer = s.0 in
       record {
         given = r.given;

@@ -50,7 +50,7 @@ use Rattle.dds_core.proofs.TakenSoFar.{TakenTo, TakesTo}
 use Rattle.dds_ends.specs.Sending.{AreMessages}
 use Rattle.dds_core.specs.Standing.{StandsFor}
 use Rattle.dds_core.specs.Ruling.{IsSound}
-use Rattle.dds_core.specs.Stepping.{Sends, Steps, StepsMeeting, SoundSteps, SoundStepsBy}
+use Rattle.dds_core.specs.Stepping.{Sends, Steps, StepsBy, SoundSteps, SoundStepsBy}
 use Rattle.dds_machine.specs.Watching.{Tests}
 use Rattle.dds_protocol.proofs.Contacts.{call_knows, tick_knows}
 use Rattle.dds_protocol.proofs.Growth.{TickStep-rows}
@@ -390,10 +390,10 @@ sound_still config old new number known delivered readers b =
     }))
 
 pub sound_call : {tests : Tests} (old new : PeerKept) (call : Call) (output : Output)
-    → StepsMeeting tests old (event.Call call) output new → Sends old (event.Call call) output
+    → StepsBy tests old (event.Call call) output new → Sends old (event.Call call) output
     → SoundStepsBy tests old (event.Call call) output new
-sound_call {tests} old new call output steps sends config peer s sound met =
-    let r = steps config peer s met in
+sound_call {tests} old new call output steps sends config peer s sound =
+    let r = steps config peer s in
     let told : IsSound config (record peer { part = r.0.part }) =
     call_backed config peer.number (packets_of peer.delivered) peer.delivered (state_of peer) tests call output.reply
     r.0.part r.1.step.0 sound in (
@@ -407,7 +407,7 @@ sound_call {tests} old new call output steps sends config peer s sound met =
 
 pub sound_tick : (old new : PeerKept) (now : ℕ) (output : Output) → Steps old (event.Tick now) output new
     → Sends old (event.Tick now) output → SoundSteps old (event.Tick now) output new
-sound_tick old new now output steps sends config peer s sound met =
+sound_tick old new now output steps sends config peer s sound =
     let r = steps config peer s in (
       r.0,
       r.1,

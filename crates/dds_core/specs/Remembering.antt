@@ -2,18 +2,15 @@
 -- what is kept of a peer: nothing here has to be believed.
 --
 -- DDS 1.4, 2.2.2.5 (ReadCondition, QueryCondition: get_trigger_value).
-use Rattle.std.specs.Prelude.{◌≡◌, ◌⊎◌, ℕ, ◌≤◌, Bool, true, false, List, length, All, Contains}
+use Rattle.std.specs.Prelude.{◌≡◌, ◌⊎◌, ℕ, ◌≤◌, Bool, false, List, length, All, Contains}
 use Rattle.dds_base.specs.declared.config.Config.{Config}
 use Rattle.dds_base.specs.declared.key.Key.{Key}
 use Rattle.dds_base.specs.Access.{has_match}
 use Rattle.dds_conditions.specs.Filtered.{tests_of}
 use Rattle.dds_notices.specs.declared.notice.Notice.{Notice}
 use Rattle.dds_notices.specs.Listeners.{ByEntity}
-use Rattle.dds_machine.specs.declared.call.Call.TheVariants.{MeetReader, MeetWriter}
 use Rattle.dds_machine.specs.Part.{Part, own_reader}
 use Rattle.dds_machine.specs.Watching.{Tests, test_of}
-use Rattle.dds_protocol.specs.declared.event.Event.{Event}
-use Rattle.dds_protocol.specs.declared.event.Event.TheVariants as event
 use Rattle.dds_protocol.specs.Peer.{Peer}
 use Rattle.dds_core.specs.declared.misses.Miss.{Miss}
 use Rattle.dds_core.specs.Kept.{PeerKept}
@@ -47,9 +44,3 @@ pub record Remembers {F L : Type 0} (notices : L → List Notice) (capacity : L 
   pub stands : CoreStandsFor notices capacity becomes given kept config peer
   pub sound : IsSound config peer
   pub right : All (IsMiss (tests_of meaning kept.filtered.filters) peer.part) misses
-
--- by this event the peer may meet somebody, whom no roster may have
-abbrev pub may_meet : Event → Bool
-may_meet (event.Call (MeetReader writer far greeted)) = true
-may_meet (event.Call (MeetWriter reader far)) = true
-may_meet other = false

@@ -11,7 +11,7 @@ ghost use Rattle.dds_notices.specs.Listeners.{ByEntity, at_entity, shown};
 ghost use Rattle.dds_core.specs.Lending.{event_of};
 ghost use Rattle.dds_core.specs.Listening.{Adds, AreKept, RefusesEntity, RefusesFilter, RefusesListener, Sets, StandsFor, Steps, no_listeners};
 ghost use Rattle.dds_core.specs.Observing.{Observes};
-ghost use Rattle.dds_core.specs.Opening.{InRosters, InRostersAt, coming_refusal, core_refusal, opening_peer};
+ghost use Rattle.dds_core.specs.Opening.{InRosters, core_refusal, opening_peer};
 ghost use Rattle.dds_core.specs.Pairs.{IsPair};
 ghost use Rattle.dds_core.specs.Remembering.{AreMisses};
 ghost use Rattle.dds_ends.specs.Sending.{AreMessages, max_unsent};
@@ -20,8 +20,6 @@ ghost use Rattle.dds_core.specs.Ruling.{IsSound};
 ghost use Rattle.dds_ends.specs.Twins.{Twins};
 ghost use Rattle.dds_machine.specs.Part.{how_of, is_attached, own_proxies, place_of};
 ghost use Rattle.dds_protocol.specs.declared.event.Event.TheVariants as event;
-ghost use Rattle.dds_machine.specs.Opening.{coming_part};
-ghost use Rattle.dds_protocol.specs.Coming.{coming_peer};
 ghost use Rattle.dds_protocol.specs.Peer.{Peer as PeerState};
 ghost use Rattle.dds_base.specs.declared.config.Config.{Config as ConfigOf};
 
@@ -30,7 +28,7 @@ use crate::lent_event::LentEvent;
 use crate::misses::Misses;
 use crate::observing::Observed;
 use crate::pairing::Pair;
-use dds_base::{Code, Config, Endpoint, Entity, GuidPrefix, Moment, Sn};
+use dds_base::{Code, Config, Endpoint, Entity, Moment, Sn};
 use dds_conditions::Filter;
 use dds_ends::{Marks, Twin, pair_of};
 use dds_notices::{Listener, Notice, Slots, StatusMask};
@@ -92,38 +90,6 @@ impl<F: Filter, L: Listener> Core<F, L> {
         })
     }
 
-    /// The one peer of a configuration, as it comes to a network under this number, without filters and listeners. Its
-    /// writers and readers are matched with its own alone, until they are told of others. The room for all listeners
-    /// that will be set is made here.
-    ///
-    /// # Errors
-    ///
-    /// The first of these: what `Config::check` answers; `BadParameter` where the configuration has more peers than one,
-    /// or the number is 0; `Memory` where a growth was refused.
-    ///
-    /// RTPS 2.5, 8.2 (Participant).
-    pub fn come(alloc: Global, config: &Config, number: u32) -> Result<Core<F, L>, Code>
-        // In each roster that has the peer under this number it stands for it as it comes, and all that is known of it
-        // was claimed.
-        ensures coming { IfOk result (λ core. InRostersAt config.now number
-            (λ roster p. StandsFor L.notices L.capacity L.becomes (no_listeners (coming_part number p)) core
-            roster (coming_peer number p) × IsSound roster (coming_peer number p))) }
-        // It has no filters.
-        ensures none { IfOk result (λ core. core.filtered.filters ≡ []) }
-        // Against what comes there is no cause.
-        ensures taken { IfOk result (λ core. coming_refusal config.now.peers number ≡ None) }
-        // A refusal is by the first cause that there is, or for want of memory.
-        ensures refused { IfErr result (Refuses (coming_refusal config.now.peers number)) }
-    {
-        let filtered = FilteredPeer::come(alloc, config, number)?;
-        let listeners = Slots::open(alloc, filtered.writers(), filtered.readers())?;
-        Ok(Core {
-            filtered,
-            listeners,
-            marks: Marks::NOTHING,
-        })
-    }
-
     /// One event: a call, the peer's time that goes on, the bytes of a packet that come, or the places of a reader that are
     /// tried again.
     ///
@@ -149,7 +115,6 @@ impl<F: Filter, L: Listener> Core<F, L> {
         // are told of, to one that it stands for afterwards; what a call enters is announced, what is due at a tick is
         // sent, a delivered packet is taken up by the rules of the protocol, and what is due by them is sent, and places
         // that are tried again go as far as those let them.
-        // By `MeetReader` and `MeetWriter` it is so in each roster that has whom the peer meets.
         ensures step { Steps L.notices L.capacity L.becomes
             (tests_of F.meaning self.old.filtered.filters) self.old event result self.new }
         // What goes out is the written form of a message.
@@ -171,7 +136,6 @@ impl<F: Filter, L: Listener> Core<F, L> {
         // are told of, to one that it stands for afterwards; what a call enters is announced, what is due at a tick is
         // sent, a delivered packet is taken up by the rules of the protocol, and what is due by them is sent, and places
         // that are tried again go as far as those let them.
-        // By `MeetReader` and `MeetWriter` it is so in each roster that has whom the peer meets.
         ensures step { Steps L.notices L.capacity L.becomes
             (tests_of F.meaning self.old.filtered.filters) self.old event result.0 self.new }
         // What goes out is the written form of a message.
@@ -256,16 +220,6 @@ impl<F: Filter, L: Listener> Core<F, L> {
             self.filtered.end(&mut self.listeners, &self.marks);
         }
         output
-    }
-
-    /// The prefix of its ends' names, which no other peer has.
-    ///
-    /// RTPS 2.5, 8.2 (GuidPrefix_t).
-    pub fn prefix(&self) -> GuidPrefix
-        // It is that of the peer in each roster in which it stands for one.
-        ensures prefix { result ≡ self.now.filtered.peer.prefix }
-    {
-        self.filtered.prefix()
     }
 
     /// Where its lists have their memory from.

@@ -3,7 +3,7 @@
 //! DDS 1.4, 2.2.2.5 (ReadCondition, QueryCondition: get_trigger_value). `docs/DECISIONS.md`, "Listeners, filters and
 //! WaitSets", says why it is a type of its own.
 
-ghost use Rattle.std.specs.Prelude.{◌≡◌, ◌<◌, [], None, IfErr, IfOk, OnErr, OnOk};
+ghost use Rattle.std.specs.Prelude.{◌≡◌, [], None, IfErr, IfOk, OnErr, OnOk};
 ghost use Rattle.dds_base.specs.declared.config.Config.{Config as ConfigOf};
 ghost use Rattle.dds_base.specs.Number.{at_number};
 ghost use Rattle.dds_base.specs.Refusal.{Refuses};
@@ -11,10 +11,8 @@ ghost use Rattle.dds_conditions.specs.Filtered.{tests_of};
 ghost use Rattle.dds_conditions.specs.Watched.{is_used, uses_in};
 ghost use Rattle.dds_core.specs.Listening.{Adds, RefusesFilter, RefusesListener, Sets, StandsFor, Steps, no_listeners};
 ghost use Rattle.dds_core.specs.Opening.{InRosters, core_refusal, opening_peer};
-ghost use Rattle.dds_core.specs.Remembering.{may_meet};
 ghost use Rattle.dds_core.specs.Ruling.{IsSound};
-ghost use Rattle.dds_ends.specs.Sending.{AreMessages, max_unsent};
-ghost use Rattle.dds_ends.specs.Twins.{Twins};
+ghost use Rattle.dds_ends.specs.Sending.{AreMessages};
 ghost use Rattle.dds_core.specs.Standing.{StandsFor as PeerStandsFor};
 ghost use Rattle.dds_protocol.specs.declared.event.Event.TheVariants as event;
 ghost use Rattle.dds_protocol.specs.Peer.{Peer as PeerState};
@@ -25,15 +23,13 @@ use crate::misses::Misses;
 use dds_base::{Code, Config, Entity};
 use dds_conditions::Filter;
 use dds_ends::{Twin, pair_of};
-use dds_machine::Call;
 use dds_notices::{Listener, StatusMask};
 use dds_protocol::{Event, Output};
 use std::alloc::Global;
 use std::marker::Model;
 
 /// A peer as `Core` is one, which remembers of its read and query conditions which found nothing: until something happens at
-/// its reader, such a condition is answered without going over the samples again. It answers as `Core` does. One that was
-/// asked to meet somebody (`Call::MeetReader`, `Call::MeetWriter`) remembers nothing from then on.
+/// its reader, such a condition is answered without going over the samples again. It answers as `Core` does.
 ///
 /// A type that the prover is to know can't hold one whose filters or listeners hold a `dyn`: what it remembers is right by
 /// what its filters mean, and is part of what is true of the type.
@@ -42,12 +38,9 @@ pub struct Mindful<F: Filter = Box<dyn Filter + Send>, L: Listener = Box<dyn Lis
     core: Core<F, L>,
     // No answer depends on it.
     misses: Misses,
-    // Until it is asked to meet somebody. Where no roster has whom it met, nothing is known of it that could be remembered.
-    remembers: bool,
 }
 
 impl<F: Filter, L: Listener> Model for Mindful<F, L> {
-    ghost use Rattle.std.specs.Prelude.{◌≡◌, true};
     ghost use Rattle.dds_core.specs.Listening.{CoreKept};
     ghost use Rattle.dds_core.specs.Remembering.{Remembers};
 
@@ -55,18 +48,7 @@ impl<F: Filter, L: Listener> Model for Mindful<F, L> {
 
     ghost view = { λ m. m.core };
 
-    ghost invariant = { λ m. m.remembers ≡ true
-        → Remembers L.notices L.capacity L.becomes F.meaning m.core m.misses };
-}
-
-/// Whether a peer may meet somebody by this event.
-fn may_meet(event: &Event) -> bool
-    ensures { result ≡ may_meet event.now }
-{
-    matches!(
-        event,
-        Event::Call(Call::MeetReader { .. } | Call::MeetWriter { .. })
-    )
+    ghost invariant = { λ m. Remembers L.notices L.capacity L.becomes F.meaning m.core m.misses };
 }
 
 impl<F: Filter, L: Listener> Mindful<F, L> {
@@ -100,7 +82,6 @@ impl<F: Filter, L: Listener> Mindful<F, L> {
         Ok(Mindful {
             core,
             misses: Misses::new(alloc),
-            remembers: true,
         })
     }
 
@@ -115,13 +96,13 @@ impl<F: Filter, L: Listener> Mindful<F, L> {
         // are told of, to one that it stands for afterwards; what a call enters is announced, what is due at a tick is
         // sent, a delivered packet is taken up by the rules of the protocol, and what is due by them is sent, and places
         // that are tried again go as far as those let them.
-        // By `MeetReader` and `MeetWriter` it is so in each roster that has whom the peer meets.
         ensures step { Steps L.notices L.capacity L.becomes
             (tests_of F.meaning self.old.filtered.filters) self.old event result self.new }
         // What goes out is the written form of a message.
         ensures messages { AreMessages result.packets }
     {
-        self.happen(event, &mut Twin::Unasked)
+        self.core
+            .step_with(event, &mut Twin::Unasked, &mut self.misses)
     }
 
     /// One event, as `step` has it, and two equal outputs. All memory for both is asked for before anything changes, but
@@ -136,7 +117,6 @@ impl<F: Filter, L: Listener> Mindful<F, L> {
         // are told of, to one that it stands for afterwards; what a call enters is announced, what is due at a tick is
         // sent, a delivered packet is taken up by the rules of the protocol, and what is due by them is sent, and places
         // that are tried again go as far as those let them.
-        // By `MeetReader` and `MeetWriter` it is so in each roster that has whom the peer meets.
         ensures step { Steps L.notices L.capacity L.becomes
             (tests_of F.meaning self.old.filtered.filters) self.old event result.0 self.new }
         // What goes out is the written form of a message.
@@ -146,26 +126,8 @@ impl<F: Filter, L: Listener> Mindful<F, L> {
     {
         let alloc = self.core.memory();
         let mut twin = Twin::Asked;
-        let output = self.happen(event, &mut twin);
+        let output = self.core.step_with(event, &mut twin, &mut self.misses);
         pair_of(alloc, output, twin)
-    }
-
-    /// One event, and where two replies are asked for, the reply once more. From one by which it may meet somebody on it
-    /// remembers nothing.
-    #[inline(always)]
-    fn happen(&mut self, event: Event, twin: &mut Twin) -> Output
-        ensures step { Steps L.notices L.capacity L.becomes
-            (tests_of F.meaning self.old.filtered.filters) self.old event result self.new }
-        ensures messages { AreMessages result.packets }
-        ensures few { result.unsent < max_unsent }
-        ensures twin { Twins twin.old result.reply twin.new }
-    {
-        if may_meet(&event) || !self.remembers {
-            self.remembers = false;
-            let mut misses = Misses::nowhere(self.core.memory());
-            return self.core.step_with(event, twin, &mut misses);
-        }
-        self.core.step_with(event, twin, &mut self.misses)
     }
 
     /// The bytes of a packet come, as by `step`, and stay with whoever keeps them: no memory is needed to hand them over.
@@ -180,9 +142,6 @@ impl<F: Filter, L: Listener> Mindful<F, L> {
         // What goes out is the written form of a message.
         ensures messages { AreMessages result.packets }
     {
-        if !self.remembers {
-            return self.core.deliver(packet);
-        }
         self.core.happen(
             LentEvent::Deliver(packet),
             &mut Twin::Unasked,
@@ -295,11 +254,7 @@ impl<F: Filter, L: Listener> Mindful<F, L> {
     pub fn into_core(self) -> Core<F, L>
         ensures same { result ≡ self }
     {
-        let Mindful {
-            core,
-            misses: _,
-            remembers: _,
-        } = self;
+        let Mindful { core, misses: _ } = self;
         core
     }
 }

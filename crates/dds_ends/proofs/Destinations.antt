@@ -107,16 +107,20 @@ peers_are topic n (p ∷ ps) =
 
 -- a destination is a peer of the configuration
 
-pub is_peer : (all : List PeerConfig) (topic n : ℕ) (ps : List PeerConfig) → IsRest all n ps → (k : ℕ) (d : Destination)
+peers_from : (all : List PeerConfig) (topic n : ℕ) (ps : List PeerConfig) → IsRest all n ps → (k : ℕ) (d : Destination)
     → slice_get (destinations topic n ps) k ≡ Some d → IsPeer all d
-is_peer all topic n [] rest k d at = absurd cc
-is_peer all topic n (p ∷ ps) rest k d at =
+peers_from all topic n [] rest k d at = absurd cc
+peers_from all topic n (p ∷ ps) rest k d at =
     ⊎_elim
     (λ f. subst (λ (x : Destination). IsPeer all x) f.1
     (record { peer = p; at = rest_first all n p ps rest; prefix = refl }))
-    (λ f. is_peer all topic (n + 1) ps (rest_later all n p ps rest) f.0 d f.1)
+    (λ f. peers_from all topic (n + 1) ps (rest_later all n p ps rest) f.0 d f.1)
     (cond_get (has_reader topic p.readers) (record { peer = n; prefix = p.prefix })
     (destinations topic (n + 1) ps) k d at)
+
+pub is_peer : (peers : List PeerConfig) (topic k : ℕ) (d : Destination)
+    → slice_get (destinations topic 1 peers) k ≡ Some d → IsPeer peers d
+is_peer peers topic k d at = peers_from peers topic 1 peers (rest_whole peers) k d at
 
 -- where an element stands
 pub at_some : {X : Type 0} (xs : List X) (x : X) → Contains xs x → (k : ℕ) × (slice_get xs k ≡ Some x)

@@ -123,9 +123,9 @@ few_from topic i (p ∷ ps) good peer =
         )
 
 -- the readers of a topic, in a configuration that is not refused
-pub few_opened : (topic first : ℕ) (peers : List PeerConfig) → check_refusal peers ≡ None
-    → AreFew (readers_of (all_names topic first peers))
-few_opened topic first peers fits =
+pub few_opened : (topic : ℕ) (peers : List PeerConfig) → check_refusal peers ≡ None
+    → AreFew (readers_of (all_names topic peers))
+few_opened topic peers fits =
     let config : Config = record { peers = peers } in
     let roster = configs_are_rosters config fits in
-    few_names (all_names topic first peers) (λ peer. (few_from topic first peers roster.each peer).0)
+    few_names (all_names topic peers) (λ peer. (few_from topic 1 peers roster.each peer).0)

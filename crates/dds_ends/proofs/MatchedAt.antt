@@ -1,16 +1,14 @@
 -- Whom a writer is matched with: by the configuration at the opening, and where names stand among others.
-use Rattle.std.proofs.Common.{◌≡◌, ℕ, zero, suc, ◌+◌, Bool, true, false, ◌&&◌, ◌||◌, List, [], ◌∷◌, ◌++◌, Some, Contains, map, slice_get, refl, ap, sym, ◌∙◌, subst, arith, ⊎_elim}
-use Rattle.std.specs.Prelude.{if◌then◌else◌}
+use Rattle.std.proofs.Common.{◌≡◌, ℕ, zero, suc, ◌+◌, ◌-◌, Bool, true, false, ◌||◌, List, [], ◌∷◌, Some, Contains, slice_get, refl, ap, sym, ◌∙◌, subst, arith, ⊎_elim}
 use Rattle.std.proofs.lemmas.Option.{same_Some}
 use Rattle.dds_base.specs.declared.config.PeerConfig.{PeerConfig}
 use Rattle.dds_base.specs.declared.config.ReaderConfig.{ReaderConfig}
-use Rattle.dds_base.specs.Matched.{any_reader, is_reliable_reader, of_ends_in, same_topic}
+use Rattle.dds_base.specs.Matched.{any_reader, is_reliable_reader}
 use Rattle.dds_base.specs.declared.endpoint.Endpoint.{Endpoint}
 use Rattle.dds_machine.specs.Part.{peers_of, same_endpoint}
 use Rattle.dds_machine.proofs.Tables.{same_is}
 use Rattle.dds_protocol.proofs.Composed.{front_or_rest}
 use Rattle.dds_protocol.proofs.InOrder.{same_self}
-use Rattle.dds_ends.specs.declared.matching.Destination.{Destination}
 use Rattle.dds_ends.specs.declared.matching.ReaderName.{ReaderName}
 use Rattle.dds_ends.specs.declared.matching.TopicName.{TopicName}
 use Rattle.dds_ends.specs.EndNames.{all_names, reader_name, reader_names, topic_name, topic_names}
@@ -18,8 +16,8 @@ use Rattle.dds_ends.specs.Matching.{destinations}
 use Rattle.dds_ends.specs.MatchedEnds.{AreKnownReaders, AreMatchedNow, AreNamedOnce, IsKnownReader, IsNameOf, IsReliableName, is_named, readers_of}
 use Rattle.dds_ends.proofs.Destinations.{among_at, is_peer, peers_are}
 use Rattle.dds_ends.proofs.Lists.{map-get}
-use Rattle.dds_ends.proofs.Named.{in_first, in_last}
-use Rattle.dds_ends.proofs.Numbered.{IsRest, append_get, is_told}
+use Rattle.dds_ends.proofs.Named.{told}
+use Rattle.dds_ends.proofs.Numbered.{is_told}
 use Rattle.dds_ends.proofs.Once.{Once}
 use Rattle.dds_ends.proofs.Tables.{map-matched_readers}
 
@@ -110,14 +108,23 @@ once_at (n ∷ ns) once (suc j) (suc k) x y at_x at_y same = ap suc (once_at ns 
 
 -- ---- at the opening
 
--- a reader of the topic, where all have these peers from this number on
-any_opened : (all : List PeerConfig) (topic first : ℕ) (peers : List PeerConfig) → IsRest all first peers → (k : ℕ)
-    (name : ReaderName) → slice_get (all_names topic first peers) k ≡ Some name → IsNameOf all topic name
-any_opened all topic first peers rest k name at =
+-- an end, by the numbers that it has
+end_as : (e : Endpoint) (peer number : ℕ) → peer ≡ e.peer → number ≡ e.number
+    → ◌≡◌ {A = Endpoint} (record { peer = peer; number = number }) e
+end_as e peer number p n = by peer e.peer number e.number p n
+  where
+    by : (a b c d : ℕ) → a ≡ b → c ≡ d
+        → ◌≡◌ {A = Endpoint} (record { peer = a; number = c }) (record { peer = b; number = d })
+    by a b c d p n = cc
+
+-- a reader of the topic
+any_opened : (peers : List PeerConfig) (topic k : ℕ) (name : ReaderName)
+    → slice_get (all_names topic peers) k ≡ Some name → IsNameOf peers topic name
+any_opened peers topic k name at =
     let t =
-    is_told all (λ (p : PeerConfig). p.readers) any_reader (λ (r : ReaderConfig). r.topic) reader_name topic first peers
-    rest k name at in
-    subst (λ (x : ReaderName). IsNameOf all topic x) t.told
+    is_told peers (λ (p : PeerConfig). p.readers) any_reader (λ (r : ReaderConfig). r.topic) reader_name topic k name
+    at in
+    subst (λ (x : ReaderName). IsNameOf peers topic x) t.told
     (record {
       is = record {
         peer = t.peer;
@@ -131,13 +138,13 @@ any_opened all topic first peers rest k name at =
     })
 
 -- a reliable one
-name_opened : (all : List PeerConfig) (topic first : ℕ) (peers : List PeerConfig) → IsRest all first peers → (k : ℕ)
-    (name : ReaderName) → slice_get (reader_names topic first peers) k ≡ Some name → IsReliableName all topic name
-name_opened all topic first peers rest k name at =
+name_opened : (peers : List PeerConfig) (topic k : ℕ) (name : ReaderName)
+    → slice_get (reader_names topic peers) k ≡ Some name → IsReliableName peers topic name
+name_opened peers topic k name at =
     let t =
-    is_told all (λ (p : PeerConfig). p.readers) is_reliable_reader (λ (r : ReaderConfig). r.topic) reader_name topic
-    first peers rest k name at in
-    subst (λ (x : ReaderName). IsReliableName all topic x) t.told
+    is_told peers (λ (p : PeerConfig). p.readers) is_reliable_reader (λ (r : ReaderConfig). r.topic) reader_name topic k
+    name at in
+    subst (λ (x : ReaderName). IsReliableName peers topic x) t.told
     (record {
       name_is = record {
         is = record {
@@ -159,13 +166,12 @@ IsNamedSo peers topic name true = IsReliableName peers topic name
 IsNamedSo peers topic name false = IsNameOf peers topic name
 
 -- what is known of the readers of the topic is so
-pub all_opened : (all : List PeerConfig) (topic first : ℕ) (peers : List PeerConfig) → IsRest all first peers
-    → AreKnownReaders all topic (topic_names topic first peers)
-all_opened all topic first peers rest k known at =
+pub all_opened : (peers : List PeerConfig) (topic : ℕ) → AreKnownReaders peers topic (topic_names topic peers)
+all_opened peers topic k known at =
     let t =
-    is_told all (λ (p : PeerConfig). p.readers) any_reader (λ (r : ReaderConfig). r.topic) topic_name topic first peers
-    rest k known at in
-    subst (λ (x : TopicName). IsKnownReader all topic x) t.told
+    is_told peers (λ (p : PeerConfig). p.readers) any_reader (λ (r : ReaderConfig). r.topic) topic_name topic k known
+    at in
+    subst (λ (x : TopicName). IsKnownReader peers topic x) t.told
     (record {
       name_is = record {
         is = record {
@@ -190,69 +196,30 @@ known_so peers topic known is = by known.is_reliable is.as_reliable
     by true reliable = record { name_is = is.name_is; reliable = reliable }
     by false reliable = is.name_is
 
--- a reliable reader of the topic is one of all
-reliable_in : (tell : ℕ → ReaderConfig → ReaderName) (topic n : ℕ) (rs : List ReaderConfig) (k : ℕ) (x : ReaderName)
-    → slice_get (of_ends_in is_reliable_reader (λ (r : ReaderConfig). r.topic) tell topic n rs) k ≡ Some x
-    → (j : ℕ) × (slice_get (of_ends_in any_reader (λ (r : ReaderConfig). r.topic) tell topic n rs) j ≡ Some x)
-reliable_in tell topic n [] k x at = absurd cc
-reliable_in tell topic n (r ∷ rs) k x at =
-    by (is_reliable_reader r) (same_topic r.topic topic) k (λ i later. reliable_in tell topic (n + 1) rs i x later) at
-  where
-    few : List ReaderName
-    few = of_ends_in is_reliable_reader (λ (c : ReaderConfig). c.topic) tell topic (n + 1) rs
+-- is a matched reader
+pub matched_opened : (peers : List PeerConfig) (topic k : ℕ) (name : ReaderName)
+    → slice_get (reader_names topic peers) k ≡ Some name → Contains (readers_of (all_names topic peers)) name.reader
+matched_opened peers topic k name at =
+    let n = (name_opened peers topic k name at).name_is in
+    let there =
+    told (λ (p : PeerConfig). p.readers) any_reader (λ (r : ReaderConfig). r.topic) reader_name topic 1 peers
+    (name.reader.peer - 1) n.is.peer (name.reader.number - 1) n.is.end n.is.at_peer.1 n.is.at_reader.1 refl
+    n.is.same_topic in
+    let low = n.is.at_peer.0 in
+    let above = n.is.at_reader.0 in
+    subst (λ (e : Endpoint). Contains (readers_of (all_names topic peers)) e)
+    (end_as name.reader (1 + (name.reader.peer - 1)) (1 + (name.reader.number - 1)) (omega (arith, low))
+    (omega (arith, above)))
+    (among_at (readers_of (all_names topic peers)) there.0 _
+    (map-get (λ (x : ReaderName). x.reader) (all_names topic peers) there.0 _ there.1))
 
-    each : List ReaderName
-    each = of_ends_in any_reader (λ (c : ReaderConfig). c.topic) tell topic (n + 1) rs
-
-    by : (a b : Bool) (i : ℕ)
-        → ((h : ℕ) → slice_get few h ≡ Some x → (j : ℕ) × (slice_get each j ≡ Some x))
-        → slice_get (if a && b then tell n r ∷ few else few) i ≡ Some x
-        → (j : ℕ) × (slice_get (if b then tell n r ∷ each else each) j ≡ Some x)
-    by true true zero later here = (zero, here)
-    by true true (suc i) later here = let f = later i here in (suc f.0, f.1)
-    by true false i later here = later i here
-    by false true i later here = let f = later i here in (suc f.0, f.1)
-    by false false i later here = later i here
-
-among_all : (topic i : ℕ) (ps : List PeerConfig) (k : ℕ) (x : ReaderName)
-    → slice_get (reader_names topic i ps) k ≡ Some x
-    → (j : ℕ) × (slice_get (all_names topic i ps) j ≡ Some x)
-among_all topic i [] k x at = absurd cc
-among_all topic i (p ∷ ps) k x at =
-    let few : List ReaderName =
-    of_ends_in is_reliable_reader (λ (r : ReaderConfig). r.topic) (reader_name i p) topic 1 p.readers in
-    let each : List ReaderName =
-    of_ends_in any_reader (λ (r : ReaderConfig). r.topic) (reader_name i p) topic 1 p.readers in
-    ⊎_elim
-    (λ f.
-    let g = reliable_in (reader_name i p) topic 1 p.readers f.0 x f.1 in
-    in_first each (all_names topic (i + 1) ps) g.0 x g.1)
-    (λ f. let g = among_all topic (i + 1) ps f.0 x f.1 in in_last each (all_names topic (i + 1) ps) g.0 x g.1)
-    (append_get few (reader_names topic (i + 1) ps) k x at)
-
--- so it is matched
-pub matched_opened : (topic first : ℕ) (peers : List PeerConfig) (k : ℕ) (name : ReaderName)
-    → slice_get (reader_names topic first peers) k ≡ Some name
-    → Contains (readers_of (all_names topic first peers)) name.reader
-matched_opened topic first peers k name at =
-    let f = among_all topic first peers k name at in
-    among_at (readers_of (all_names topic first peers)) f.0 name.reader
-    (map-get (λ (x : ReaderName). x.reader) (all_names topic first peers) f.0 name f.1)
-
--- the peers of all are those that are sent to
-pub sent_opened : (topic first : ℕ) (peers : List PeerConfig)
-    → peers_of (readers_of (all_names topic first peers))
-    ≡ map (λ (d : Destination). d.peer) (destinations topic first peers)
-sent_opened topic first peers =
-    ap (λ (es : List Endpoint). peers_of es)
-    (map-matched_readers (λ (n : ReaderName). n.reader) reader_name topic first peers) ∙ peers_are topic first peers
-
-pub ends_opened : (all : List PeerConfig) (topic first : ℕ) (peers : List PeerConfig) → IsRest all first peers
-    → AreMatchedNow all topic (all_names topic first peers) (destinations topic first peers)
-    (reader_names topic first peers)
-ends_opened all topic first peers rest = record {
-  readers = λ k n at. any_opened all topic first peers rest k n at;
-  sent_to = sent_opened topic first peers;
-  prefixes = λ k d at. is_peer all topic first peers rest k d at;
-  named = λ k n at. name_opened all topic first peers rest k n at;
+pub ends_opened : (peers : List PeerConfig) (topic : ℕ)
+    → AreMatchedNow peers topic (all_names topic peers) (destinations topic 1 peers) (reader_names topic peers)
+ends_opened peers topic = record {
+  readers = λ k n at. any_opened peers topic k n at;
+  sent_to =
+      ap (λ (es : List Endpoint). peers_of es)
+      (map-matched_readers (λ (n : ReaderName). n.reader) reader_name topic 1 peers) ∙ peers_are topic 1 peers;
+  prefixes = λ k d at. is_peer peers topic k d at;
+  named = λ k n at. name_opened peers topic k n at;
 }

@@ -91,17 +91,23 @@ told_in all ends is_wanted topic_of tell topic i p n (e ∷ es) here rest k x at
     (cond_get (is_wanted e && same_topic (topic_of e) topic) (tell i p n e)
     (of_ends_in is_wanted topic_of (tell i p) topic (n + 1) es) k x at)
 
-pub is_told : {E X : Type 0} (all : List PeerConfig) (ends : PeerConfig → List E) (is_wanted : E → Bool)
+told_from : {E X : Type 0} (all : List PeerConfig) (ends : PeerConfig → List E) (is_wanted : E → Bool)
     (topic_of : E → ℕ) (tell : ℕ → PeerConfig → ℕ → E → X) (topic i : ℕ) (ps : List PeerConfig) → IsRest all i ps
     → (k : ℕ) (x : X) → slice_get (of_matched_ends ends is_wanted topic_of tell topic i ps) k ≡ Some x
     → IsTold all ends is_wanted topic_of tell topic x
-is_told all ends is_wanted topic_of tell topic i [] rest k x at = absurd cc
-is_told all ends is_wanted topic_of tell topic i (p ∷ ps) rest k x at =
+told_from all ends is_wanted topic_of tell topic i [] rest k x at = absurd cc
+told_from all ends is_wanted topic_of tell topic i (p ∷ ps) rest k x at =
     ⊎_elim (λ f. told_in all ends is_wanted topic_of tell topic i p 1 (ends p) (rest_first all i p ps rest)
     (rest_whole (ends p)) f.0 x f.1)
-    (λ f. is_told all ends is_wanted topic_of tell topic (i + 1) ps (rest_later all i p ps rest) f.0 x f.1)
+    (λ f. told_from all ends is_wanted topic_of tell topic (i + 1) ps (rest_later all i p ps rest) f.0 x f.1)
     (append_get (of_ends_in is_wanted topic_of (tell i p) topic 1 (ends p))
     (of_matched_ends ends is_wanted topic_of tell topic (i + 1) ps) k x at)
+
+pub is_told : {E X : Type 0} (all : List PeerConfig) (ends : PeerConfig → List E) (is_wanted : E → Bool)
+    (topic_of : E → ℕ) (tell : ℕ → PeerConfig → ℕ → E → X) (topic k : ℕ) (x : X)
+    → slice_get (of_matched_ends ends is_wanted topic_of tell topic 1 all) k ≡ Some x
+    → IsTold all ends is_wanted topic_of tell topic x
+is_told all ends is_wanted topic_of tell topic k x at = told_from all ends is_wanted topic_of tell topic 1 all (rest_whole all) k x at
 
 -- two ends of one number are one
 pub same_end : {E : Type 0} (ends : PeerConfig → List E) (all : List PeerConfig) (e : Endpoint) (p q : PeerConfig)

@@ -8,18 +8,12 @@ use Rattle.dds_machine.specs.declared.reply.Reply.{Reply}
 use Rattle.dds_machine.specs.Machine.{AllTests, Machine, Step}
 use Rattle.dds_machine.specs.Noticing.{machine_ended}
 
--- What is kept stands for machines. For each for which it stood, when so many packets were sent, the reply to the event,
--- if it is one that may be, is one that the machine gives, and it then stands for the machine at the event's end.
-abbrev pub Steps : {X : Type 0} → (X → Config → Machine → Type 0) → (Config → WorldEvent → Reply → Type 0) → AllTests → ℕ → X
-    → WorldEvent → Reply → X → Type 0
-Steps StandsFor MayBe tests sent old event reply new =
-    (config : Config) (m : Machine) → StandsFor old config m → MayBe config event reply
+-- What is kept stands for machines. For each for which it stood, when so many packets were sent, the reply to the event
+-- is one that the machine gives, and it then stands for the machine at the event's end.
+abbrev pub Steps : {X : Type 0} → (X → Config → Machine → Type 0) → AllTests → ℕ → X → WorldEvent → Reply → X → Type 0
+Steps StandsFor tests sent old event reply new =
+    (config : Config) (m : Machine) → StandsFor old config m
     → (after : Machine) × Step tests sent m event reply after × StandsFor new config (machine_ended m event after)
-
--- each of these events may be, answered so
-abbrev pub AllMayBe : (WorldEvent → Reply → Type 0) → List WorldEvent → List Reply → Type 0
-AllMayBe MayBe (event ∷ events) (reply ∷ replies) = MayBe event reply × AllMayBe MayBe events replies
-AllMayBe MayBe events replies = Unit {0}
 
 -- Replies to a list of events. So many packets were sent before the first event, so many after the last, and after none
 -- fewer than before it; how many, the machine doesn't say.
@@ -31,10 +25,10 @@ Run tests sent old (event ∷ events) (reply ∷ replies) last new =
 Run tests sent old [] (reply ∷ replies) last new = ⊥
 Run tests sent old (event ∷ events) [] last new = ⊥
 
--- For each machine for which what is kept stood, the replies to the events, if all of them may be, are a run of it, to one
--- for which it then stands.
-abbrev pub Runs : {X : Type 0} → (X → Config → Machine → Type 0) → (Config → WorldEvent → Reply → Type 0) → AllTests → ℕ → X
-    → List WorldEvent → List Reply → ℕ → X → Type 0
-Runs StandsFor MayBe tests sent old events replies last new =
-    (config : Config) (m : Machine) → StandsFor old config m → AllMayBe (MayBe config) events replies
+-- For each machine for which what is kept stood, the replies to the events are a run of it, to one for which it then
+-- stands.
+abbrev pub Runs : {X : Type 0} → (X → Config → Machine → Type 0) → AllTests → ℕ → X → List WorldEvent → List Reply → ℕ
+    → X → Type 0
+Runs StandsFor tests sent old events replies last new =
+    (config : Config) (m : Machine) → StandsFor old config m
     → (after : Machine) × Run tests sent m events replies last after × StandsFor new config after

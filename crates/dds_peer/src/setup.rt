@@ -1,24 +1,23 @@
 //! The set-up of a script, in which peers, writers and readers go by their numbers.
 
-use dds_base::{EntityId, GuidPrefix};
-use dds_script::{Options, Peers, Setup, SetupLine};
+use dds_base::{Config, EntityId, GuidPrefix};
+use dds_script::{Options, Setup, SetupLine};
 use std::alloc::{AllocError, Global};
 
 /// A line of the set-up.
 #[derive(Clone, Copy)]
 pub enum SetupPart {
     Peer,
-    Later,
     Writer(Options),
     Reader(Options),
 }
 
-/// The set-up so far: how many peers there are, and how many writers and readers the last of them has, in 8 bits, of
-/// which more than 255 are refused for their count.
+/// The set-up so far: how many peers there are, and how many writers and readers the last of them has, in 8 bits. More
+/// than 255 are refused for their count.
 #[derive(Drop)]
 pub struct NumberedSetup {
     setup: Setup,
-    peers: u32,
+    peers: u8,
     writers: u8,
     readers: u8,
 }
@@ -34,20 +33,16 @@ impl NumberedSetup {
         }
     }
 
-    /// The name of the next peer: eight zeros and its number.
-    fn next_peer(&mut self) -> GuidPrefix {
-        self.peers = self.peers.wrapping_add(1);
-        self.writers = 0;
-        self.readers = 0;
-        let [a, b, c, d] = self.peers.to_be_bytes();
-        GuidPrefix([0, 0, 0, 0, 0, 0, 0, 0, a, b, c, d])
-    }
-
-    /// The line with the name that it gives: for a writer or a reader its number.
+    /// The line with the name that it gives: for a peer eleven zeros and its number, for a writer or a reader its
+    /// number.
     fn named(&mut self, part: SetupPart) -> SetupLine {
         match part {
-            SetupPart::Peer => SetupLine::Peer(self.next_peer()),
-            SetupPart::Later => SetupLine::Later(self.next_peer()),
+            SetupPart::Peer => {
+                self.peers = self.peers.wrapping_add(1);
+                self.writers = 0;
+                self.readers = 0;
+                SetupLine::Peer(GuidPrefix([0, 0, 0, 0, 0, 0, 0, 0, 0, 0, 0, self.peers]))
+            }
             SetupPart::Writer(options) => {
                 self.writers = self.writers.wrapping_add(1);
                 SetupLine::Writer(EntityId([0, 0, self.writers, 0x02]), options)
@@ -59,18 +54,14 @@ impl NumberedSetup {
         }
     }
 
-    /// Takes up a line. Answers why it may not stand here, if it is not taken up.
-    pub fn take(&mut self, part: SetupPart) -> Result<Option<&'static str>, AllocError> {
+    /// Takes up a line. Answers whether it may stand here: a writer or a reader needs a peer before it.
+    pub fn take(&mut self, part: SetupPart) -> Result<bool, AllocError> {
         let line = self.named(part);
-        if self.setup.take(line)? {
-            Ok(None)
-        } else {
-            Ok(Some(line.misplaced_cause()))
-        }
+        self.setup.take(line)
     }
 
-    /// The peers, of which none is kept.
-    pub fn peers(&mut self) -> Result<Peers, AllocError> {
-        self.setup.peers()
+    /// The configuration of the peers.
+    pub fn config(&mut self) -> Result<Config, AllocError> {
+        self.setup.config()
     }
 }

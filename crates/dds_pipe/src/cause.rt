@@ -26,21 +26,10 @@ fn other_cause(alloc: Global, name: &str, words: &[&str]) -> Result<String, Allo
     }
 }
 
-/// Why words that follow `peer` name no peer of a configuration.
-fn peer_cause(alloc: Global, words: &[&str]) -> Result<String, AllocError> {
-    match words {
-        [prefix] | [prefix, "later"] => {
-            form_cause(alloc, "peer", Form::of(&[Operand::GuidPrefix]), &[*prefix])
-        }
-        _ => String::from_str(alloc, "its form is `peer PREFIX [later]`"),
-    }
-}
-
 fn words_cause(alloc: Global, words: &[&str]) -> Result<String, AllocError> {
     match words {
         ["call" | "tick" | "deliver" | "resume", ..] => event_cause(alloc, words),
-        ["peer", operands @ ..] => peer_cause(alloc, operands),
-        ["writer" | "reader", ..] => setup_cause(alloc, words),
+        ["peer" | "writer" | "reader", ..] => setup_cause(alloc, words),
         [name, operands @ ..] => other_cause(alloc, name, operands),
         [] => String::from_str(alloc, "a line is wanted"),
     }

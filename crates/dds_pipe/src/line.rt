@@ -31,11 +31,10 @@ pub enum Line {
 }
 
 fn peer(words: &[&str]) -> Option<Line> {
-    match words {
-        [prefix] => Some(Line::Setup(SetupLine::Peer(guid_prefix(prefix)?))),
-        [prefix, "later"] => Some(Line::Setup(SetupLine::Later(guid_prefix(prefix)?))),
-        _ => None,
-    }
+    let [prefix] = words else {
+        return None;
+    };
+    Some(Line::Setup(SetupLine::Peer(guid_prefix(prefix)?)))
 }
 
 fn writer(words: &[&str]) -> Option<Line> {

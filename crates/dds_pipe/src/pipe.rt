@@ -9,8 +9,8 @@ use dds_machine::Reply;
 use dds_notices::Recorder;
 use dds_protocol::{Event, Output, Packet};
 use dds_script::{
-    Fault, Lines, ListenerLine, Peers, Prefix, Setup, SetupLine, SetupRefusal, Side, Status,
-    TranscriptLine, meeting_of, print,
+    Fault, Lines, ListenerLine, Prefix, Setup, SetupLine, SetupRefusal, Side, Status,
+    TranscriptLine, print,
 };
 use rtps_fragments::Fragments;
 use std::alloc::{AllocError, Global};
@@ -30,17 +30,7 @@ enum Stage {
     /// The peer was refused, for this cause: no line is taken any more.
     Refused(SetupRefusal),
     /// The peer is there.
-    Open(Opened),
-}
-
-/// A peer that is open.
-#[derive(Drop)]
-struct Opened {
-    core: Core,
-    /// Its number.
-    number: u32,
-    /// All peers that were named.
-    peers: Peers,
+    Open(Core),
 }
 
 /// What lines are said to.
@@ -110,20 +100,10 @@ fn side_of(event: &Event) -> Side {
     }
 }
 
-/// Opens the peer of a number: one that comes later is opened with itself alone.
-fn open_core(alloc: Global, peers: &Peers, number: u32) -> Result<Core, Code> {
-    match peers.later(number) {
-        Some(peer) => Core::come(alloc, peer, number),
-        None => Core::open(alloc, &peers.opening, number),
-    }
-}
-
-/// What the peer is given of an event: of a datagram that comes what it turns into, and of a match all that is known of
-/// the other end.
-fn given_event(tables: &Tables, peers: &Peers, number: u32, event: Event) -> Result<Event, Code> {
+/// What the peer is given of an event: of a datagram that comes what it turns into.
+fn given_event(tables: &Tables, event: Event) -> Result<Event, Code> {
     match event {
         Event::Deliver(bytes) => Ok(Event::Deliver(tables.inward(bytes)?)),
-        Event::Call(call) => Ok(Event::Call(meeting_of(peers, number, call))),
         event => Ok(event),
     }
 }
@@ -138,9 +118,9 @@ fn refusal(alloc: Global, code: Code) -> Output {
 }
 
 /// An event at a peer, which is told of no datagram that can't be turned for it.
-fn step(alloc: Global, opened: &mut Opened, tables: &Tables, event: Event) -> Output {
-    match given_event(tables, &opened.peers, opened.number, event) {
-        Ok(event) => opened.core.step(event),
+fn step(alloc: Global, core: &mut Core, tables: &Tables, event: Event) -> Output {
+    match given_event(tables, event) {
+        Ok(event) => core.step(event),
         Err(code) => refusal(alloc, code),
     }
 }
@@ -208,7 +188,7 @@ impl Session {
     }
 
     /// Takes up a line of the configuration, which may not follow the opening, nor name a writer or a reader before any
-    /// peer, nor a peer that the opening knows behind one that comes later.
+    /// peer.
     fn set_up(&mut self, part: SetupLine, line: u64) -> Result<(), Fault> {
         let Stage::Naming(setup) = &mut self.stage else {
             return Err(self.too_late(line));
@@ -216,28 +196,21 @@ impl Session {
         if setup.take(part)? {
             Ok(())
         } else {
-            let cause = part.misplaced_cause();
+            let cause = "a writer or a reader follows a peer";
             Err(Fault::not_a_command(self.alloc, line, cause))
         }
     }
 
     /// Opens the peer of a number, once.
-    fn open(&mut self, number: u32, line: u64) -> Result<Reply, Fault> {
+    fn open(&mut self, peer: u32, line: u64) -> Result<Reply, Fault> {
         let Stage::Naming(setup) = &mut self.stage else {
             return Err(self.too_late(line));
         };
-        let peers = setup.peers()?;
-        let (stage, reply) = match open_core(self.alloc, &peers, number) {
-            Ok(core) => {
-                let opened = Opened {
-                    core,
-                    number,
-                    peers,
-                };
-                (Stage::Open(opened), Reply::Done)
-            }
+        let config = setup.config()?;
+        let (stage, reply) = match Core::open(self.alloc, &config, peer) {
+            Ok(core) => (Stage::Open(core), Reply::Done),
             Err(code) => {
-                let fault = peers.fault(number);
+                let fault = config.fault();
                 let refusal = SetupRefusal { code, fault };
                 (Stage::Refused(refusal), Reply::Refused(code))
             }
@@ -285,13 +258,13 @@ impl Session {
 
     /// An event at the peer, which needs to be open. Prints what answers it.
     fn happen(&mut self, event: Event, line: u64, output: &mut impl Write) -> Result<(), Fault> {
-        let Stage::Open(opened) = &mut self.stage else {
+        let Stage::Open(core) = &mut self.stage else {
             return Err(self.not_open(line));
         };
         match self.kinds.tables() {
             Ok(tables) => {
                 let side = side_of(&event);
-                let given = step(self.alloc, opened, &tables, event);
+                let given = step(self.alloc, core, &tables, event);
                 print_output(self.alloc, &tables, side, given, output)
             }
             Err(AllocError) => {
@@ -303,10 +276,10 @@ impl Session {
 
     /// A filter more at the peer, which needs to be open.
     fn add_filter(&mut self, octets: Octets, line: u64) -> Result<Reply, Fault> {
-        let Stage::Open(opened) = &mut self.stage else {
+        let Stage::Open(core) = &mut self.stage else {
             return Err(self.not_open(line));
         };
-        match opened.core.add_filter(Prefix::new(octets)) {
+        match core.add_filter(Prefix::new(octets)) {
             Ok(number) => Ok(Reply::Created(number)),
             Err((code, _)) => Ok(Reply::Refused(code)),
         }
@@ -315,10 +288,10 @@ impl Session {
     /// Sets the listener that an entity of the peer is to have, or takes the one away that it has. The peer needs to be
     /// open. Gives the line that is printed.
     fn set_listener(&mut self, asked: ListenerLine, line: u64) -> Result<String, Fault> {
-        let Stage::Open(opened) = &mut self.stage else {
+        let Stage::Open(core) = &mut self.stage else {
             return Err(self.not_open(line));
         };
-        let set = set_listener(self.alloc, &mut opened.core, asked);
+        let set = set_listener(self.alloc, core, asked);
         Ok(listener_text(self.alloc, &set)?)
     }
 

@@ -76,7 +76,7 @@ numbered_last : {X : Type 0} (xs : List X) (x : X) (n : ℕ) (d : X) → n ≡ l
 numbered_last xs x zero d is = absurd (omega (arith, is))
 numbered_last xs x (suc i) d is = get_last xs x i d (omega (arith, is))
 
-pub numbered_none : {X : Type 0} (n : ℕ) (d : X) → numbered [] n d ≡ d
+numbered_none : {X : Type 0} (n : ℕ) (d : X) → numbered [] n d ≡ d
 numbered_none zero d = refl
 numbered_none (suc i) d = refl
 

@@ -350,7 +350,7 @@ call_came old new r (is_told (UnmatchWriter k w) is) =
 call_came old new r (sees_matches k is) =
     changed_reader old new k (reader_looked_at (own_proxies old k) (own_reader old k)) r (λ p. refl) is
 
-pub answers_came : (tests : Tests) (old : Part) (c : Call) (reply : Reply) (new : Dds) (r : ℕ)
+answers_came : (tests : Tests) (old : Part) (c : Call) (reply : Reply) (new : Dds) (r : ℕ)
     → Answers tests old c reply new → SameCame old.dds new r
 answers_came tests old c reply new r a = call_came old new r (changes_of tests old c reply new a)
 

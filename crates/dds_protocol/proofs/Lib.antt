@@ -76,7 +76,6 @@ pub mod PairAsks
 pub mod PairNamed
 pub mod PairFound
 pub mod Compared
-pub mod FarCompared
 pub mod CallChanges
 pub mod FiltersKept
 pub mod AtEnds
@@ -94,7 +93,3 @@ pub mod GoesOn
 pub mod Answered
 pub mod Rosters
 pub mod Coming
-pub mod Meetings
-pub mod Familiar
-pub mod Joining
-pub mod OfMatched

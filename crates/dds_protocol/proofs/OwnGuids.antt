@@ -179,17 +179,15 @@ in_peers g topic n (p ∷ ps) each =
 -- ---- a roster
 
 -- what is asked of the prefixes, and of each peer's writers
-pub record IsChecked (peers : List PeerConfig) : Type 0 where
-  pub prefixes : (i : ℕ) (p : PeerConfig) → slice_get peers i ≡ Some p → prefix_count peers p.prefix ≤ 1
-  pub entities : (i : ℕ) (p : PeerConfig) → slice_get peers i ≡ Some p → (j : ℕ) (w : WriterConfig)
+record IsChecked (peers : List PeerConfig) : Type 0 where
+  prefixes : (i : ℕ) (p : PeerConfig) → slice_get peers i ≡ Some p → prefix_count peers p.prefix ≤ 1
+  entities : (i : ℕ) (p : PeerConfig) → slice_get peers i ≡ Some p → (j : ℕ) (w : WriterConfig)
       → slice_get p.writers j ≡ Some w → entity_count p w.entity ≤ 1
-  pub readers : (i : ℕ) (p : PeerConfig) → slice_get peers i ≡ Some p → (j : ℕ) (r : ReaderConfig)
+  readers : (i : ℕ) (p : PeerConfig) → slice_get peers i ≡ Some p → (j : ℕ) (r : ReaderConfig)
       → slice_get p.readers j ≡ Some r → entity_count p r.entity ≤ 1
-  pub writer_kinds : (i : ℕ) (p : PeerConfig) → slice_get peers i ≡ Some p → (j : ℕ) (w : WriterConfig)
-      → slice_get p.writers j ≡ Some w → has_kind 2 w.entity ≡ true
-  pub kinds : (i : ℕ) (p : PeerConfig) → slice_get peers i ≡ Some p → (j : ℕ) (r : ReaderConfig)
+  kinds : (i : ℕ) (p : PeerConfig) → slice_get peers i ≡ Some p → (j : ℕ) (r : ReaderConfig)
       → slice_get p.readers j ≡ Some r → has_kind 7 r.entity ≡ true
-  pub known : (i : ℕ) (p : PeerConfig) → slice_get peers i ≡ Some p → same_prefix p.prefix unknown_prefix ≡ false
+  known : (i : ℕ) (p : PeerConfig) → slice_get peers i ≡ Some p → same_prefix p.prefix unknown_prefix ≡ false
 
 good_writers : (p : PeerConfig) → is_bad_peer p ≡ false
     → list_any (λ (w : WriterConfig). nat_lt 1 (entity_count p w.entity)) p.writers ≡ false
@@ -214,21 +212,11 @@ good_readers p good =
       (or_parts (list_any is_bad_writer p.writers) (list_any is_bad_reader p.readers) both.1).1,
     )
 
--- none of its writers is bad
-bad_writers : (p : PeerConfig) → is_bad_peer p ≡ false → list_any is_bad_writer p.writers ≡ false
-bad_writers p good =
-    let rest = (or_parts (nat_lt 16 (length p.writers) || nat_lt 16 (length p.readers)) _ good).1 in
-    let twice : EntityId → Bool = λ entity. nat_lt 1 (entity_count p entity) in
-    let writers = list_any (λ (w : WriterConfig). twice w.entity) p.writers in
-    let readers = list_any (λ (r : ReaderConfig). twice r.entity) p.readers in
-    (or_parts (list_any is_bad_writer p.writers) (list_any is_bad_reader p.readers)
-    (or_parts (writers || readers) _ rest).1).0
-
 not_not : (b : Bool) → not b ≡ false → b ≡ true
 not_not true h = refl
 not_not false h = absurd cc
 
-pub checked : (peers : List PeerConfig) → IsRoster peers → IsChecked peers
+checked : (peers : List PeerConfig) → IsRoster peers → IsChecked peers
 checked peers roster =
     record {
       prefixes = λ i p at.
@@ -243,10 +231,6 @@ checked peers roster =
           let both = good_readers p (none-passes is_bad_peer peers i p roster.each at) in
           ltb-false 1 (entity_count p r.entity)
           (none-passes (λ (v : ReaderConfig). nat_lt 1 (entity_count p v.entity)) p.readers j r both.0 within);
-      writer_kinds = λ i p at j w within.
-          let bad = bad_writers p (none-passes is_bad_peer peers i p roster.each at) in
-          not_not (has_kind 2 w.entity)
-          (or_parts (not (has_kind 2 w.entity)) _ (none-passes is_bad_writer p.writers j w bad within)).0;
       kinds = λ i p at j r within.
           let both = good_readers p (none-passes is_bad_peer peers i p roster.each at) in
           not_not (has_kind 7 r.entity)
@@ -293,7 +277,7 @@ opening_guids peers r good (suc i) (suc j) a b at_v at_w same =
     (writer_qos r.topic peers) j i b a before at_w at_v that this in omega arith in
     omega arith
 
-pub own_guids : (peers : List PeerConfig) (r : ReaderConfig) → IsChecked peers → (h : List Happening) → joined_in h ≡ []
+own_guids : (peers : List PeerConfig) (r : ReaderConfig) → IsChecked peers → (h : List Happening) → joined_in h ≡ []
     → HaveOwnGuids (reader_qos peers r) h
 own_guids peers r good h none =
     subst (λ (ws : List MatchedWriter). OwnGuids ws) (sym (nobody-joined (reader_qos peers r) h none))
@@ -329,7 +313,7 @@ here_or_below : (n k : ℕ) (here : Bool) (below : Option ℕ) (rows : List Writ
 here_or_below n k true below rows h later = let same : n ≡ k = cc in (omega arith, omega arith)
 here_or_below n k false below rows h later = let within = later h in (omega arith, omega arith)
 
-pub publication-within : (n k : ℕ) (rows : List WriterProxy) (w : Endpoint) → publication_from n rows w ≡ Some k
+publication-within : (n k : ℕ) (rows : List WriterProxy) (w : Endpoint) → publication_from n rows w ≡ Some k
     → (n ≤ k) × (k < n + length rows)
 publication-within n k [] w h = absurd cc
 publication-within n k (row ∷ rows) w h =
@@ -376,7 +360,7 @@ number_of : (m n : ℕ) → 1 ≤ m → 1 ≤ n → m - 1 ≡ n - 1 → m ≡ n
 number_of m n low_m low_n same = omega arith
 
 -- a prefix of the configuration is that of one peer
-pub one_peer : (peers : List PeerConfig) → IsChecked peers → (prefix : GuidPrefix) (a b : ℕ) (p q : PeerConfig)
+one_peer : (peers : List PeerConfig) → IsChecked peers → (prefix : GuidPrefix) (a b : ℕ) (p q : PeerConfig)
     → IsNumbered peers a p → IsNumbered peers b q → p.prefix ≡ prefix → q.prefix ≡ prefix
     → (a ≡ b) × (p ≡ q)
 one_peer peers good prefix a b p q at_a at_b of_p of_q =

@@ -10,7 +10,7 @@ use Rattle.dds_machine.specs.declared.call.Call.{Call}
 use Rattle.dds_machine.specs.declared.call.Call.TheVariants as call
 use Rattle.dds_machine.specs.declared.reply.Reply.{Reply}
 use Rattle.dds_machine.specs.declared.reply.Reply.TheVariants.{Done, InstanceHandle, LivelinessLost, Matched}
-use Rattle.dds_machine.specs.Calls.{Answers, CallStep, Effect, nothing, writes, tells, looks_at_matches, effect, effect_of, far_reader_told, reader_told, far_writer_told}
+use Rattle.dds_machine.specs.Calls.{Answers, CallStep, Effect, nothing, writes, tells, looks_at_matches, effect, effect_of, reader_told}
 use Rattle.dds_machine.specs.Matching.{Telling, MatchReader, UnmatchReader, MatchWriter, UnmatchWriter, MeetReader, MeetWriter, TellStep, after_telling, is_known, joined, left, met, seen_after_telling, telling_refusal, with_how, with_match}
 use Rattle.dds_machine.specs.Numbered.{numbered, with_numbered}
 use Rattle.dds_machine.specs.Part.{Attachment, Away, Waiting, Dds, Part, Rtps, TopicReader, Writer, WriterProxy, no_writer, place_of, row_of}
@@ -63,12 +63,6 @@ answer_says tests old (call.MatchWriter v w) (InstanceHandle handle) new a t e =
 answer_says tests old (call.MatchWriter v w) reply new a t e = cc
 answer_says tests old (call.UnmatchWriter v w) Done new a t e = said old (UnmatchWriter v w) new _ (a.0, a.2) refl t e
 answer_says tests old (call.UnmatchWriter v w) reply new a t e = cc
-answer_says tests old (call.MeetReader v far greeted) Done new a t e =
-    said old (far_reader_told v far) new _ (a.0, a.2) refl t e
-answer_says tests old (call.MeetReader v far greeted) reply new a t e = cc
-answer_says tests old (call.MeetWriter v far) (InstanceHandle handle) new a t e =
-    said old (far_writer_told v far) new _ (a.0, a.2) refl t e
-answer_says tests old (call.MeetWriter v far) reply new a t e = cc
 answer_says tests old (call.Register v key) Done new a t e = cc
 answer_says tests old (call.Write v key value) Done new a t e = cc
 answer_says tests old (call.Dispose v key) Done new a t e = cc
@@ -79,15 +73,14 @@ answer_says tests old (call.GetLivelinessLost v) (LivelinessLost status) new a t
 answer_says tests old (call.GetPublicationMatched v) (Matched status) new a t e = cc
 answer_says tests old c reply new a t e = cc
 
--- a call tells nobody anything, or is a telling that is done, by its effect
-pub untold_or_tells : (tests : Tests) (old : Part) (c : Call) (reply : Reply) (new : Part)
+-- a call tells nobody anything, or is a telling that is done
+pub untold_or_told : (tests : Tests) (old : Part) (c : Call) (reply : Reply) (new : Part)
     → CallStep tests old c reply new
-    → Untold (effect_of old c reply)
-    ⊎ ((t : Telling) × (effect_of old c reply ≡ tells t) × TellStep old t None new)
-untold_or_tells tests old c reply new h = by (effect_of old c reply) refl h.rtps
+    → Untold (effect_of old c reply) ⊎ ((t : Telling) × TellStep old t None new)
+untold_or_told tests old c reply new h = by (effect_of old c reply) refl h.rtps
   where
     by : (e : Effect) → effect_of old c reply ≡ e → new.rtps ≡ effect old.rtps e
-        → Untold e ⊎ ((t : Telling) × (effect_of old c reply ≡ tells t) × TellStep old t None new)
+        → Untold e ⊎ ((t : Telling) × TellStep old t None new)
     by nothing is rtps = inl tt
     by (writes w entry) is rtps = inl tt
     by (looks_at_matches w) is rtps = inl tt
@@ -96,19 +89,12 @@ untold_or_tells tests old c reply new h = by (effect_of old c reply) refl h.rtps
         answer_says tests old c reply new.dds h.answers t (ap (λ (e : Effect). told_by e) is) in
         inr (
           t,
-          is,
           (
             says.0,
             ap (λ (r : Rtps). let p : Part = record { rtps = r; dds = new.dds } in p) rtps
                 ∙ ap (λ (d : Dds). let p : Part = record { rtps = after_telling old.rtps t; dds = d } in p) says.1,
           ),
         )
-
-pub untold_or_told : (tests : Tests) (old : Part) (c : Call) (reply : Reply) (new : Part)
-    → CallStep tests old c reply new
-    → Untold (effect_of old c reply) ⊎ ((t : Telling) × TellStep old t None new)
-untold_or_told tests old c reply new h =
-    ⊎_elim (λ untold. inl untold) (λ told. inr (told.0, told.2)) (untold_or_tells tests old c reply new h)
 
 -- ---- the rows of a reader
 

@@ -25,7 +25,3 @@ pub mod Filters
 pub mod Noticing
 pub mod Tellings
 pub mod Coming
-pub mod Meetings
-pub mod Familiar
-pub mod Joining
-pub mod Entered

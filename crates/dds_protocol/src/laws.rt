@@ -11,14 +11,10 @@ ghost use Rattle.dds_protocol.specs.Closed.{BestEffortAsDropped, ClosedAcknowled
 ghost use Rattle.dds_protocol.specs.Coming.{ComesAsPart, ComesBounded, ComesSound, ComesUsed, OpensSoundFirst, OpensUsedFirst};
 ghost use Rattle.dds_protocol.specs.DueMessages.{AreSent, Due, packet_of};
 ghost use Rattle.dds_protocol.specs.Dues.{CallsStayDue};
-ghost use Rattle.dds_protocol.specs.Entered.{OpensOfMatched, RunsOfMatched, StaysOfMatched};
-ghost use Rattle.dds_protocol.specs.Familiar.{RunsFamiliar, StaysFamiliar};
 ghost use Rattle.dds_protocol.specs.Fresh.{OpensUsed, StepsUsed};
 ghost use Rattle.dds_protocol.specs.Greetings.{OpensAnswered, RunsAnswered, StaysAnswered};
 ghost use Rattle.dds_protocol.specs.InOrder.{ChangesComeInOrder};
-ghost use Rattle.dds_protocol.specs.Joining.{OpensApart, OwnersExistThen, StaysApart};
 ghost use Rattle.dds_protocol.specs.Laws.{AnswersAreTrue, AnswersCanBeWritten, AssertionsAreTrue, AssertionsCanBeWritten, Composes, ComposesRuns, HeartbeatsAreTrue, HeartbeatsCanBeWritten, KeepAllIsKept, OpensBacked, OpensSound, OwnersExist, ReadersTellWritersApart, ResumesRestOnClaims, RulesRestOnClaims};
-ghost use Rattle.dds_protocol.specs.Meetings.{ComesByRoster, MayBeCalledSo, OpensByRoster, StepsByRoster};
 ghost use Rattle.dds_protocol.specs.Protocol.{answers_per};
 ghost use Rattle.dds_protocol.specs.Repair.{AnswersAreFew, AsksAreSent, BeatsAreSent, PairCatchesUp, packets_for};
 ghost use Rattle.dds_protocol.specs.Roster.{ConfigsAreRosters};
@@ -120,60 +116,6 @@ pub fn whoever_comes_or_goes()
     ensures backed { CallsBacked }
     // and after one that tells, what it has to send is true, and can be written, as before.
     ensures due { CallsStayDue }
-{}
-
-/// While nobody is met each peer knows the names that it knew, each of its writers the readers, and each of its readers the
-/// writers, by the same publication handles.
-///
-/// RTPS 2.5, 8.4.7, 8.4.10.
-pub fn nobody_is_met()
-    // It is so after every event by which nobody is met,
-    ensures event { StaysFamiliar }
-    // and after every run of such events.
-    ensures run { RunsFamiliar }
-{}
-
-/// A reader tells the writers apart that it was opened with or met: its rows are of those, and no two have one GUID. So an
-/// instance has an owner wherever a writer is registered for it, whoever is met.
-///
-/// RTPS 2.5, 8.4.10.3; DDS 1.4, 2.2.3 (OWNERSHIP).
-pub fn readers_tell_writers_apart()
-    // It is so at the opening,
-    ensures opening { OpensApart }
-    // and after every event.
-    ensures step { StaysApart }
-    // So after every run there is an owner.
-    ensures owner { OwnersExistThen }
-{
-    owner_is_found();
-}
-
-/// What happened at a reader is of writers that it had: each entry names one that it was opened with or had met before. So of
-/// a writer that joins nothing was entered before.
-///
-/// RTPS 2.5, 8.4.10.3; DDS 1.4, 2.2.2.5.5 (publication_handle).
-pub fn entries_are_of_matched_writers()
-    // It is so at the opening,
-    ensures opening { OpensOfMatched }
-    // after every event,
-    ensures step { StaysOfMatched }
-    // and after every run of a roster.
-    ensures run { RunsOfMatched }
-{}
-
-/// A peer may meet writers and readers that no configuration lists, by calls, at any moment, if the roster has them: under
-/// the name that is told, with the GUID that is told, of its own end's topic.
-///
-/// RTPS 2.5, 8.2, 8.4.7.4, 8.4.10.3.
-pub fn newcomers_stand_in_the_roster()
-    // At the opening a peer knows names of the roster alone,
-    ensures opening { OpensByRoster }
-    // so does one that comes,
-    ensures comes { ComesByRoster }
-    // and each after an event by which it meets nobody but whom the roster has.
-    ensures step { StepsByRoster }
-    // So no telling by the roster is refused for the name.
-    ensures called { MayBeCalledSo }
 {}
 
 /// After every run, the changes of a writer that keeps all that came at a reader that it was matched with at the

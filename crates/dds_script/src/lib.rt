@@ -1,8 +1,7 @@
 //! What the programs share: the words and numbers of a script, the options of writers and readers, the calls that words
 //! ask for, lines of input, and how replies are printed.
 //!
-//! Contracts say which values a `Prefix` passes, and that a meeting asks what the match did: what the programs read and
-//! print is tested.
+//! Contracts say which values a `Prefix` passes, and nothing else: what the programs read and print is tested.
 //! Not here: which lines a program takes.
 #![tactic(auto)]
 
@@ -13,12 +12,10 @@ mod forms;
 mod lines;
 mod listening;
 mod matching;
-mod meeting;
 mod notice_text;
 mod number;
 mod operand;
 mod options;
-mod peers;
 mod prefix;
 mod printing;
 mod sample_text;
@@ -35,11 +32,9 @@ pub use forms::{Form, Operand, peer_form};
 pub use lines::Lines;
 pub use listening::{ListenerLine, listener_line};
 pub use matching::Side;
-pub use meeting::meeting_of;
 pub use number::{decimal, decimal_u32, entity_id, guid_prefix, units, value};
 pub use operand::{reader_end, reader_number, writer_end};
 pub use options::{Options, reader_options, writer_options};
-pub use peers::Peers;
 pub use prefix::Prefix;
 pub use printing::{Traffic, TranscriptLine, print};
 pub use setup::{Setup, SetupLine};

@@ -1,17 +1,15 @@
 -- Histories of one peer: what it did, event by event, from its opening.
 --
 -- Traces are this project's own. Listeners are told at the end of an event (DDS 1.4, 2.2.4.3).
-use Rattle.std.specs.Prelude.{◌≡◌, ℕ, Bool, List, [], ◌∷◌, All, length, map, Option, None, Some}
+use Rattle.std.specs.Prelude.{◌≡◌, ℕ, Bool, List, [], ◌∷◌, length, map, Option, None, Some}
 use Rattle.dds_base.specs.declared.config.Config.{Config}
 use Rattle.dds_base.specs.declared.key.Key.{Key}
 use Rattle.dds_conditions.specs.Filtered.{tests_of}
 use Rattle.dds_notices.specs.declared.notice.Notice.{Notice}
 use Rattle.dds_notices.specs.Listeners.{ByEntity, Place, Places}
-use Rattle.dds_protocol.specs.Meetings.{MeetsByRoster}
 use Rattle.dds_protocol.specs.declared.event.Event.{Event}
 use Rattle.dds_protocol.specs.declared.event.Output.{Output}
 use Rattle.dds_protocol.specs.Noticing.{peer_at_end}
-use Rattle.dds_protocol.specs.Roster.{ComeFirst, IsRoster}
 use Rattle.dds_protocol.specs.Peer.{Peer, PeerStep}
 use Rattle.dds_machine.specs.Watching.{Tests}
 use Rattle.dds_core.specs.Listening.{CoreKept, StandsFor}
@@ -58,27 +56,15 @@ opened config number filters places = record (opening_peer config number) {
   };
 }
 
--- by these entries the peer of this number meets nobody but whom the roster has
-abbrev pub MeetByRoster : Config → ℕ → List Entry → Type 0
-MeetByRoster roster number entries = All (λ (e : Entry). MeetsByRoster roster number e.event e.output.reply) entries
-
--- The entries lead from the core's opening in the configuration, with its filters and the listeners that it was given, to
--- a state that it stands for, of which all that is known was claimed, by a roster.
-pub record LeadTo {F L : Type 0} (meaning : F → Key → List ℕ → Bool) (notices : L → List Notice)
-    (capacity : L → ℕ) (becomes : L → Notice → L → Type 0) (given : ByEntity L) (config roster : Config) (number : ℕ) (entries : List Entry) (core : CoreKept F L) : Type 0 where
+-- The entries are a history of the core: they lead from its opening, with its filters and the listeners that it was
+-- given, to a state that it stands for, of which all that is known was claimed.
+pub record IsHistoryOf {F L : Type 0} (meaning : F → Key → List ℕ → Bool) (notices : L → List Notice)
+    (capacity : L → ℕ) (becomes : L → Notice → L → Type 0) (given : ByEntity L) (config : Config) (number : ℕ) (entries : List Entry) (core : CoreKept F L) : Type 0 where
   pub peer : Peer
-  pub history : IsHistory roster (tests_of meaning core.filtered.filters)
+  pub history : IsHistory config (tests_of meaning core.filtered.filters)
       (opened config number (length core.filtered.filters) (emptied peer.part.dds.listeners)) entries peer
-  pub stands : StandsFor notices capacity becomes given core roster peer
-  pub sound : IsSound roster peer
-
--- The entries are a history of the core, by each roster in which the peers of the configuration come first, and which has
--- all whom the peer meets by them.
-abbrev pub IsHistoryOf : {F L : Type 0} → (F → Key → List ℕ → Bool) → (L → List Notice) → (L → ℕ)
-    → (L → Notice → L → Type 0) → ByEntity L → Config → ℕ → List Entry → CoreKept F L → Type 0
-IsHistoryOf meaning notices capacity becomes given config number entries core =
-    (roster : Config) → ComeFirst config roster → IsRoster roster.peers → MeetByRoster roster number entries
-    → LeadTo meaning notices capacity becomes given config roster number entries core
+  pub stands : StandsFor notices capacity becomes given core config peer
+  pub sound : IsSound config peer
 
 -- an entry of these parts
 abbrev pub entry_of : ℕ → Event → Output → Entry

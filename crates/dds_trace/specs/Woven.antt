@@ -19,11 +19,10 @@ use Rattle.dds_protocol.specs.declared.event.Event.TheVariants as event
 use Rattle.dds_protocol.specs.declared.event.Packet.{Packet}
 use Rattle.dds_protocol.specs.Opening.{opening_world}
 use Rattle.dds_protocol.specs.Peer.{Peer}
-use Rattle.dds_protocol.specs.Roster.{ComeFirst, IsRoster}
 use Rattle.dds_protocol.specs.World.{WorldState, machine_of, peer_at}
 use Rattle.dds_trace.specs.declared.trace.Entry.{Entry}
 use Rattle.dds_trace.specs.Entries.{Traced}
-use Rattle.dds_trace.specs.History.{IsHistory, IsHistoryOf, MeetByRoster, emptied, opened}
+use Rattle.dds_trace.specs.History.{IsHistory, IsHistoryOf, emptied, opened}
 use Rattle.dds_trace.specs.Weaving.{IsHonest, none_placed, one_more}
 
 -- an entry of the peer of this number
@@ -87,18 +86,18 @@ AreHistories config tests start ts =
     → HasNumber start.peers trace.peer
     × ((last : Peer) × IsHistory config (tests trace.peer) (peer_at start trace.peer) trace.entries last)
 
--- For each configuration whose peers come first in a roster, each meaning of the filters and each opening from which the
--- traces are histories of different peers: the order of their entries is a run of the machine from there.
+-- For each configuration, each meaning of the filters and each opening from which the traces are histories of different
+-- peers: the order of their entries is a run of the machine from there.
 abbrev pub RunsHistories : List Traced → List ℕ → Type 0
 RunsHistories ts order =
-    (config roster : Config) (tests : AllTests) (start : WorldState) → ComeFirst config roster → IsRoster roster.peers
-    → IsOpening config start → AreApart ts → AreHistories roster tests start ts
+    (config : Config) (tests : AllTests) (start : WorldState) → IsOpening config start → AreApart ts
+    → AreHistories config tests start ts
     → (es : List PeerEntry) × AreWoven ts (none_placed ts) order es × IsRun tests start es
 
 -- ---- cores
 
 module _ {F L : Type 0} (meaning : F → Key → List ℕ → Bool) (notices : L → List Notice) (capacity : L → ℕ)
-    (becomes : L → Notice → L → Type 0) (given : ℕ → ByEntity L) (config roster : Config) (cores : ℕ → CoreKept F L) (ts : List Traced) where
+    (becomes : L → Notice → L → Type 0) (given : ℕ → ByEntity L) (config : Config) (cores : ℕ → CoreKept F L) (ts : List Traced) where
   -- each trace is a history of the core of its peer
   abbrev pub AreHistoriesOf : Type 0
   AreHistoriesOf = (t : ℕ) (trace : Traced) → slice_get ts t ≡ Some trace
@@ -109,7 +108,7 @@ module _ {F L : Type 0} (meaning : F → Key → List ℕ → Bool) (notices : L
   -- the peer begins with the filters of its core, and with the places of the listeners that it has at the end, to which
   -- nothing was told yet
   abbrev pub BeginsAs : WorldState → ℕ → Type 0
-  BeginsAs start number = (last : Peer) × StandsFor notices capacity becomes (given number) (cores number) roster last
+  BeginsAs start number = (last : Peer) × StandsFor notices capacity becomes (given number) (cores number) config last
       × (peer_at start number
       ≡ opened config number (length (cores number).filtered.filters) (emptied last.part.dds.listeners))
 
@@ -123,11 +122,6 @@ module _ {F L : Type 0} (meaning : F → Key → List ℕ → Bool) (notices : L
     pub are_woven : AreWoven ts (none_placed ts) order es
     pub run : IsRun (λ peer. tests_of meaning (cores peer).filtered.filters) start es
 
-  -- nobody is met by them but whom the roster has
-  abbrev pub AreByRoster : Type 0
-  AreByRoster = (t : ℕ) (trace : Traced) → slice_get ts t ≡ Some trace → MeetByRoster roster trace.peer trace.entries
-
   -- so is each honest order of their entries, where they are of different peers
   abbrev pub HonestOrdersRun : Type 0
-  HonestOrdersRun = (order : List ℕ) → ComeFirst config roster → IsRoster roster.peers → AreApart ts → AreHistoriesOf
-      → AreByRoster → IsHonest ts order → IsRunOf order
+  HonestOrdersRun = (order : List ℕ) → AreApart ts → AreHistoriesOf → IsHonest ts order → IsRunOf order

@@ -12,12 +12,11 @@ ghost use Rattle.dds_trace.specs.Woven.{HonestOrdersRun};
 use dds_conditions::Filter;
 use dds_notices::Listener;
 
-/// For all cores of which traces of different peers are histories, each honest order of the entries, by which nobody is met
-/// but whom the roster has, is a run of the machine without packets, from the opening with the filters and the listeners'
-/// places of the cores.
+/// For all cores of which traces of different peers are histories, each honest order of the entries is a run of the
+/// machine without packets, from the opening with the filters and the listeners' places of the cores.
 pub fn honest_orders_run<F: Filter, L: Listener>()
     // By what the filters of the cores mean.
-    ensures run { (given : ℕ → ByEntity L) (config roster : Config) (cores : ℕ → CoreKept F L)
+    ensures run { (given : ℕ → ByEntity L) (config : Config) (cores : ℕ → CoreKept F L)
         (ts : List Traced)
-        → HonestOrdersRun F.meaning L.notices L.capacity L.becomes given config roster cores ts }
+        → HonestOrdersRun F.meaning L.notices L.capacity L.becomes given config cores ts }
 {}

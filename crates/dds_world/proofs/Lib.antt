@@ -5,7 +5,6 @@ pub mod Sends
 pub mod Ruled
 pub mod RunSteps
 pub mod Opened
-pub mod Coming
 pub mod Rounds
 pub mod Caught
 pub mod CatchingUp

@@ -122,7 +122,7 @@ opens_none {F} {L} notices capacity becomes config kept none =
     })
 
 -- an element of a list with one more at its end
-pub at_end : {X : Type 0} (xs : List X) (y : X) (j : ℕ) (x : X) → slice_get (xs ++ y ∷ []) j ≡ Some x
+at_end : {X : Type 0} (xs : List X) (y : X) (j : ℕ) (x : X) → slice_get (xs ++ y ∷ []) j ≡ Some x
     → (slice_get xs j ≡ Some x) ⊎ ((j ≡ length xs) × (y ≡ x))
 at_end [] y zero x at = inr (refl, same_Some y x at)
 at_end [] y (suc j) x at = absurd cc

@@ -7,7 +7,6 @@ use Rattle.dds_base.specs.declared.config.Config.{Config}
 use Rattle.dds_base.specs.Checked.{check_refusal}
 use Rattle.dds_notices.specs.declared.notice.Notice.{Notice}
 use Rattle.dds_notices.specs.Listeners.{Places}
-use Rattle.dds_protocol.specs.Meetings.{MayBe, MeetsByRoster}
 use Rattle.dds_protocol.specs.Noticing.{peer_at_end, world_ended}
 use Rattle.dds_protocol.specs.Peer.{Peer, PeerStep}
 use Rattle.dds_machine.specs.Watching.{Tests}
@@ -43,7 +42,7 @@ IsQuiet old output new = SendsNothing output → (new.sent ≡ old.sent) × (new
 abbrev pub StepsAt : Tests → PeerKept → ℕ → (Places → Type 0) → Event → Output → PeerKept → (Places → Type 0) → Type 0
 StepsAt tests core filters AreTold event output after TheyAreTold =
     (config : Config) (peer : Peer) → CoreStandsFor core config peer → peer.part.dds.watch.filters ≡ filters
-    → AreTold peer.part.dds.listeners → IsSound config peer → MeetsByRoster config peer.number event output.reply
+    → AreTold peer.part.dds.listeners → IsSound config peer
     → (stepped : Peer) × PeerStep config tests peer event output stepped
     × CoreKeepsRules config peer event output stepped
     × CoreStandsFor after config (peer_at_end peer stepped)
@@ -91,7 +90,6 @@ pub record OpensFirst {F L : Type 0} (notices : L → List Notice) (capacity : L
 abbrev pub RuledSteps : {hearing : Hearing} → AllTests → WorldKept hearing → WorldEvent → Reply → WorldKept hearing
     → Type 0
 RuledSteps tests old event reply new = (config : Config) (network : WorldState) → StandsFor old config network
-    → MayBe config event reply
     → (after : WorldState) × (lost : ℕ) × RuledStep config tests network event reply lost after
     × (new.unsent ≡ min (old.unsent + lost) (2 ^ 64 - 1))
     × Step tests (length old.sent) (machine_of network) event reply (machine_of after)

@@ -5,4 +5,3 @@ pub mod Round
 pub mod Repairing
 pub mod Holding
 pub mod HeldSteps
-pub mod Coming

@@ -5,12 +5,10 @@
 use Rattle.std.specs.Prelude.{◌≡◌, ℕ, suc, ◌-◌, ◌^◌, ◌≤◌, List, length, get_or, slice_get, Some}
 use Rattle.dds_base.specs.declared.config.Config.{Config}
 use Rattle.dds_notices.specs.Listeners.{Places}
-use Rattle.dds_protocol.specs.Meetings.{MayBe}
 use Rattle.dds_protocol.specs.Noticing.{world_ended}
 use Rattle.dds_protocol.specs.declared.event.Packet.{Packet}
 use Rattle.dds_machine.specs.declared.event.WorldEvent.{WorldEvent}
 use Rattle.dds_machine.specs.declared.reply.Reply.{Reply}
-use Rattle.dds_machine.specs.Runs.{AllMayBe}
 use Rattle.dds_machine.specs.Machine.{AllTests, Machine}
 use Rattle.dds_protocol.specs.Bounds.{IsBounded}
 use Rattle.dds_protocol.specs.Fresh.{HasUsedCounts}
@@ -66,22 +64,20 @@ MachineStands kept config m =
 abbrev pub traffic : {hearing : Hearing} → WorldKept hearing → Traffic
 traffic kept = record { sent = kept.sent; unsent = kept.unsent }
 
--- For each state that the old network stood for, the event, by which nobody is met but whom the roster has, is a step of its
--- peers by the rules of the protocol, which say which messages are due, and of these each is sent, in their order, or counted; it is a step of the machine that
+-- For each state that the old network stood for, the event is a step of its peers by the rules of the protocol, which
+-- say which messages are due, and of these each is sent, in their order, or counted; it is a step of the machine that
 -- the peers are the parts of; and the new network stands for the state at its end, once listeners were told.
 abbrev pub KeepsRules : {hearing : Hearing} → AllTests → WorldKept hearing → WorldEvent → Reply → WorldKept hearing
     → Type 0
 KeepsRules tests old event reply new = (config : Config) (network : WorldState) → StandsFor old config network
-    → MayBe config event reply
     → (after : WorldState) × CountedStep config tests network old.unsent event reply after new.unsent
     × StandsFor new config (world_ended network event after)
 
--- For each state that the old network stood for, these replies to the events, by which nobody is met but whom the roster
--- has, are a run of its peers by the rules of the
+-- For each state that the old network stood for, these replies to the events are a run of its peers by the rules of the
 -- protocol, and the new network stands for the state afterwards.
 pub record RunsByRules {hearing : Hearing} (tests : AllTests) (old : WorldKept hearing) (events : List WorldEvent)
     (replies : List Reply)
     (new : WorldKept hearing) : Type 0 where
-  pub run : (config : Config) (network : WorldState) → StandsFor old config network → AllMayBe (MayBe config) events replies
+  pub run : (config : Config) (network : WorldState) → StandsFor old config network
       → (after : WorldState) × RuledRun config tests network old.unsent events replies after new.unsent
       × StandsFor new config after

@@ -31,7 +31,6 @@
 //! ```
 #![tactic(auto)]
 
-mod coming;
 mod round;
 mod world;
 

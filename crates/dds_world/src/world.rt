@@ -10,7 +10,6 @@ ghost use Rattle.dds_base.specs.Refusal.{Refuses};
 ghost use Rattle.dds_base.specs.declared.code.Code.TheVariants.{Memory};
 ghost use Rattle.dds_notices.specs.Listeners.{ByEntity};
 ghost use Rattle.dds_machine.specs.declared.event.WorldEvent.TheVariants as event;
-ghost use Rattle.dds_protocol.specs.Meetings.{MayBe};
 ghost use Rattle.dds_protocol.specs.Traffic.{no_traffic};
 ghost use Rattle.dds_machine.specs.Machine.{Machine, part_at, place_at};
 ghost use Rattle.dds_machine.specs.Part.{how_of, is_attached, own_proxies};
@@ -185,7 +184,7 @@ impl<F: Filter, L: Listener> World<F, L> {
         // the machine without packets gives, by what the filters mean, and the network stands for the machine at the
         // event's end, once listeners were told: this is the theorem.
         ensures step { (given : ℕ → ByEntity L) → Steps (MachineStandsFor L.notices L.capacity L.becomes given)
-            MayBe (tests_by F.meaning (map (λ core. core.filtered.filters) self.old.cores)) (length self.old.sent)
+            (tests_by F.meaning (map (λ core. core.filtered.filters) self.old.cores)) (length self.old.sent)
             self.old event result self.new }
         // The event is one by the rules of the protocol, by which that is so: each message that they make due is sent,
         // or counted, and a delivered packet is taken up, submessage by submessage.
@@ -207,7 +206,7 @@ impl<F: Filter, L: Listener> World<F, L> {
         // The replies are a run of the machine without packets.
         ensures run { IfOk result
             (λ replies. (given : ℕ → ByEntity L) → Runs (MachineStandsFor L.notices L.capacity L.becomes given)
-            MayBe (tests_in F.meaning self.old) (length self.old.sent) self.old events.items replies
+            (tests_in F.meaning self.old) (length self.old.sent) self.old events.items replies
             (length self.new.sent) self.new) }
         // They are one of the network's peers by the rules of the protocol.
         ensures rules { IfOk result

@@ -12,11 +12,11 @@ returns-in-Ok-clause-ok g c =
     c.self.view_is c.in-Ok.ensures.ok
 
 pub invariant_of-self : goal.invariant_of-self
-invariant_of-self g c = λ remembers.
+invariant_of-self g c =
     subst (λ (ms : List Miss). Remembers g.L.Listener.notices g.L.Listener.capacity g.L.Listener.becomes
     g.F.Filter.meaning c.add_filter.new.self ms) (sym c.forget.ensures)
     (remembers_filter g.L.Listener.notices g.L.Listener.capacity g.L.Listener.becomes g.F.Filter.meaning
-    c.self.inside.core c.self.inside.misses c.args.filter c.in-Ok.number c.add_filter.new.self (c.self.invariant remembers)
+    c.self.inside.core c.self.inside.misses c.args.filter c.in-Ok.number c.add_filter.new.self c.self.invariant
     c.in-Ok.ensures.ok)
 
 pub returns-in-Err-clause-refused : goal.returns-in-Err-clause-refused
@@ -26,6 +26,6 @@ returns-in-Err-clause-refused g c =
     c.self.view_is c.in-Err.ensures.refused
 
 pub invariant_of-self-in-Err : goal.invariant_of-self-in-Err
-invariant_of-self-in-Err g c = λ remembers.
+invariant_of-self-in-Err g c =
     subst (λ (k : CoreKept g.row.F.Denot g.row.L.Denot). Remembers g.L.Listener.notices g.L.Listener.capacity g.L.Listener.becomes
-    g.F.Filter.meaning k c.self.inside.misses) (sym c.in-Err.ensures.err) (c.self.invariant remembers)
+    g.F.Filter.meaning k c.self.inside.misses) (sym c.in-Err.ensures.err) c.self.invariant

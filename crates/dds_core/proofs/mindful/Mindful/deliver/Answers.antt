@@ -1,4 +1,4 @@
-use Rattle.std.proofs.Common.{refl, rules, subst}
+use Rattle.std.proofs.Common.{subst}
 use Rattle.dds_conditions.specs.Filtered.{tests_of}
 use Rattle.dds_protocol.specs.declared.event.Event.TheVariants as event
 use Rattle.dds_core.specs.Listening.{CoreKept, Steps}
@@ -8,14 +8,8 @@ use Rattle.dds_core.proofs.mindful.Mindful.deliver.Goals as goal
 pub happen-requires : goal.happen-requires
 happen-requires g c = record {
   right = are_right g.L.Listener.notices g.L.Listener.capacity g.L.Listener.becomes g.F.Filter.meaning
-      c.self.inside.core c.self.inside.misses (c.self.invariant (search rules));
+      c.self.inside.core c.self.inside.misses c.self.invariant;
 }
-
-pub returns-then-not-remembers-clause-step : goal.returns-then-not-remembers-clause-step
-returns-then-not-remembers-clause-step g c =
-    subst (λ (k : CoreKept g.row.F.Denot g.row.L.Denot). Steps g.L.Listener.notices g.L.Listener.capacity g.L.Listener.becomes
-    (tests_of g.F.Filter.meaning k.filtered.filters) k (event.Deliver c.args.packet.now) c.deliver.result c.deliver.new.self)
-    c.self.view_is c.deliver.ensures.step
 
 pub returns-clause-step : goal.returns-clause-step
 returns-clause-step g c =
@@ -24,7 +18,7 @@ returns-clause-step g c =
     c.self.view_is c.happen.ensures.step
 
 pub invariant_of-self : goal.invariant_of-self
-invariant_of-self g c = λ remembers.
+invariant_of-self g c =
     remembers_on g.L.Listener.notices g.L.Listener.capacity g.L.Listener.becomes g.F.Filter.meaning c.self.inside.core
     c.self.inside.misses c.happen.new.misses (event.Deliver c.args.packet.now) c.happen.result c.happen.new.self
-    (c.self.invariant remembers) c.happen.ensures.right c.happen.ensures.step refl
+    c.self.invariant c.happen.ensures.right c.happen.ensures.step

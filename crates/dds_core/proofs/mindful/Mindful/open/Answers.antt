@@ -7,7 +7,7 @@ use Rattle.dds_core.proofs.Remembered.{remembers_none}
 use Rattle.dds_core.proofs.mindful.Mindful.open.Goals as goal
 
 pub invariant_of-result : goal.invariant_of-result
-invariant_of-result g c = λ remembers.
+invariant_of-result g c =
     subst (λ (ms : List Miss). Remembers g.L.Listener.notices g.L.Listener.capacity g.L.Listener.becomes
     g.F.Filter.meaning c.in_ok-core.core ms) (sym c.new.ensures)
     (remembers_none g.L.Listener.notices g.L.Listener.capacity g.L.Listener.becomes g.F.Filter.meaning

@@ -19,7 +19,7 @@ returns-clause-refused g c =
     c.self.view_is c.set_listener.ensures.refused
 
 pub invariant_of-self : goal.invariant_of-self
-invariant_of-self g c = λ remembers.
+invariant_of-self g c =
     remembers_set g.L.Listener.notices g.L.Listener.capacity g.L.Listener.becomes g.F.Filter.meaning c.self.inside.core
     c.self.inside.misses c.args.entity c.args.mask c.args.listener c.set_listener.new.self c.set_listener.result
-    (c.self.invariant remembers) c.set_listener.ensures.ok c.set_listener.ensures.err
+    c.self.invariant c.set_listener.ensures.ok c.set_listener.ensures.err

@@ -1,21 +1,20 @@
-use Rattle.std.proofs.Common.{◌≡◌, ◌<◌, ℕ, List, length, ap, arith, subst, sym}
+use Rattle.std.proofs.Common.{ℕ, ◌+◌, List, subst, sym}
+use Rattle.dds_base.specs.declared.config.Config.{Config}
 use Rattle.dds_base.specs.declared.config.PeerConfig.{PeerConfig}
 use Rattle.dds_core.specs.Opening.{opening_peer}
-use Rattle.dds_core.specs.OpeningEnds.{OpensCore}
 use Rattle.dds_core.specs.Standing.{StandsFor}
 use Rattle.dds_core.proofs.InRosters.{stands_in}
-use Rattle.dds_core.proofs.OpeningLaws.{opens_in}
 use Rattle.dds_core.proofs.peer.Peer.open.Goals as goal
+
+-- an opened peer stands for its opening in a configuration
+abbrev Opened : goal.In_ok-open → Config → ℕ → Type 0
+Opened c config number = StandsFor c.in_ok-open.field-0 config (opening_peer config number)
 
 pub returns-clause-opening : goal.returns-clause-opening
 returns-clause-opening c =
-    let count = ap (λ (ps : List PeerConfig). length ps) c.as_slice-peers.ensures.elements in
-    let within : c.in-Some.index < length c.args.config.now.peers = omega (arith, count) in
-    subst (λ (n : ℕ). StandsFor c.in_ok-open.field-0 c.args.config.now (opening_peer c.args.config.now n))
-    (sym c.in-Some.ensures.index.0)
-    (opens_in c.args.config.now c.in-Some.index c.in_ok-open.field-0
-    (subst (λ (ps : List PeerConfig). OpensCore 1 ps c.in-Some.index c.in_ok-open.field-0)
-    c.as_slice-peers.ensures.elements c.in_ok-open.ensures) c.in_ok-check.ensures.ok within)
+    subst (λ (n : ℕ). Opened c c.args.config.now n) (sym c.in-Some.ensures.index.0)
+    (subst (λ (ps : List PeerConfig). Opened c (record { peers = ps }) (c.in-Some.index + 1))
+    c.as_slice-peers.ensures.elements c.in_ok-open.ensures)
 
 pub returns-clause-roster : goal.returns-clause-roster
 returns-clause-roster c =
