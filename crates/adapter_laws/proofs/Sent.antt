@@ -2,7 +2,7 @@
 use Rattle.std.proofs.Common.{◌≡◌, ◌⊎◌, ◌≤◌, ℕ, List, [], ◌∷◌, ◌++◌, length, Contains, subst, sym, ap, ◌∙◌, refl, ⊎_elim, arith}
 use Rattle.std.specs.List.{AllByRecursion}
 use Rattle.std.proofs.lemmas.List.Elements.{Contains-append_cases}
-use Rattle.dds_base.specs.declared.config.Config.{Config}
+use Rattle.dds_protocol.specs.Roster.{Roster}
 use Rattle.rtps_wire.specs.declared.message.Message.{Message}
 use Rattle.rtps_wire.specs.Messages.{spelling_of}
 use Rattle.rtps_adapter.specs.declared.direction.Direction.TheVariants.{Inward, Outward}
@@ -48,25 +48,25 @@ sent_written (due ∷ dues) packets unsent sent =
     (λ f. sent_written dues packets f.0 f.2) sent
 
 -- what is sent, with what was sent before
-step_written : (config : Config) (tests : AllTests) (old : WorldState) (unsent : ℕ) (event : WorldEvent) (reply : Reply)
-    (new : WorldState) (next : ℕ) → CountedStep config tests old unsent event reply new next → AreWritten old.sent
+step_written : (roster : Roster) (tests : AllTests) (old : WorldState) (unsent : ℕ) (event : WorldEvent) (reply : Reply)
+    (new : WorldState) (next : ℕ) → CountedStep roster tests old unsent event reply new next → AreWritten old.sent
     → AreWritten new.sent
-step_written config tests old unsent event reply new next step before =
+step_written roster tests old unsent event reply new next step before =
     subst AreWritten (sym step.ruled.sent) (λ packet here.
     ⊎_elim (before packet)
     (sent_written step.ruled.dues step.ruled.packets step.lost step.ruled.are_sent packet)
     (Contains-append_cases old.sent step.ruled.packets packet here))
 
-run_written : (config : Config) (tests : AllTests) (old : WorldState) (unsent : ℕ) (events : List WorldEvent)
-    (replies : List Reply) (new : WorldState) (last : ℕ) → RuledRun config tests old unsent events replies new last
+run_written : (roster : Roster) (tests : AllTests) (old : WorldState) (unsent : ℕ) (events : List WorldEvent)
+    (replies : List Reply) (new : WorldState) (last : ℕ) → RuledRun roster tests old unsent events replies new last
     → AreWritten old.sent → AreWritten new.sent
-run_written config tests old unsent [] [] new last run before =
+run_written roster tests old unsent [] [] new last run before =
     subst (λ (w : WorldState). AreWritten w.sent) (sym run.0) before
-run_written config tests old unsent (event ∷ events) (reply ∷ replies) new last run before =
-    run_written config tests (world_ended old event run.0) run.1 events replies new last run.3
-    (step_written config tests old unsent event reply run.0 run.1 run.2 before)
-run_written config tests old unsent [] (reply ∷ replies) new last run before = absurd run
-run_written config tests old unsent (event ∷ events) [] new last run before = absurd run
+run_written roster tests old unsent (event ∷ events) (reply ∷ replies) new last run before =
+    run_written roster tests (world_ended old event run.0) run.1 events replies new last run.3
+    (step_written roster tests old unsent event reply run.0 run.1 run.2 before)
+run_written roster tests old unsent [] (reply ∷ replies) new last run before = absurd run
+run_written roster tests old unsent (event ∷ events) [] new last run before = absurd run
 
 -- the written form of a message passes adapters
 written_passes : (kinds : List WriterKind) (packet : Packet) (m : Message) → IsWrittenAs packet m
@@ -86,14 +86,14 @@ written_stays kinds packet m is fit all out turned =
     let less : length out ≤ length (spelling_of m) = no_longer kinds m out is.writable fit went all in
     omega (arith, less, ap length is.bytes)
 
-pub sent_passes : (kinds : List WriterKind) (config : Config) (tests : AllTests) (old : WorldState) (unsent : ℕ)
+pub sent_passes : (kinds : List WriterKind) (roster : Roster) (tests : AllTests) (old : WorldState) (unsent : ℕ)
     (events : List WorldEvent) (replies : List Reply) (new : WorldState) (last : ℕ) → old.sent ≡ []
-    → RuledRun config tests old unsent events replies new last → (packet : Packet) → Contains new.sent packet
+    → RuledRun roster tests old unsent events replies new last → (packet : Packet) → Contains new.sent packet
     → (m : Message) × IsWrittenAs packet m
     × (AllByRecursion (Fits kinds m.prefix) m.submessages
     → PassesAdapters kinds m packet
     × (AllByRecursion (IsShort kinds m.prefix) m.submessages → StaysAMessage kinds packet))
-sent_passes kinds config tests old unsent events replies new last begins run packet here =
-    let w = run_written config tests old unsent events replies new last run
+sent_passes kinds roster tests old unsent events replies new last begins run packet here =
+    let w = run_written roster tests old unsent events replies new last run
     (subst AreWritten (sym begins) none_written) packet here in
     (w.0, w.1, λ fit. (written_passes kinds packet w.0 w.1 fit, written_stays kinds packet w.0 w.1 fit))

@@ -15,6 +15,7 @@ use Rattle.dds_machine.specs.declared.reply.Reply.{Reply}
 use Rattle.dds_machine.specs.Machine.{AllTests}
 use Rattle.dds_protocol.specs.declared.event.Packet.{Packet}
 use Rattle.dds_protocol.specs.Opening.{opening_world}
+use Rattle.dds_protocol.specs.Roster.{Roster}
 use Rattle.dds_protocol.specs.Rules.{RuledRun}
 use Rattle.dds_protocol.specs.World.{WorldState}
 
@@ -40,9 +41,9 @@ StaysAMessage kinds packet = (out : List ℕ) → Adapts Outward kinds packet.by
 -- change of the message is one of the type that its topic carries; it gets no longer where no list of parameters says a
 -- key alone.
 abbrev pub AdaptersChangeNothing : Type 0
-AdaptersChangeNothing = (kinds : List WriterKind) (config : Config) (tests : AllTests) (events : List WorldEvent)
+AdaptersChangeNothing = (kinds : List WriterKind) (config : Config) (roster : Roster) (tests : AllTests) (events : List WorldEvent)
     (replies : List Reply) (world : WorldState) (unsent : ℕ)
-    → RuledRun config tests (opening_world config) 0 events replies world unsent
+    → RuledRun roster tests (opening_world config) 0 events replies world unsent
     → (packet : Packet) → Contains world.sent packet
     → (m : Message) × IsWrittenAs packet m
     × (AllByRecursion (Fits kinds m.prefix) m.submessages

@@ -2,9 +2,9 @@
 --
 -- RTPS 2.5, 8.3.4 (the message receiver); that it is asked before a datagram is delivered is this project's own.
 use Rattle.std.specs.Prelude.{◌≡◌, ℕ, List, Option, Some, None}
-use Rattle.dds_base.specs.declared.config.Config.{Config}
 use Rattle.dds_base.specs.declared.endpoint.Endpoint.{Endpoint}
 use Rattle.dds_protocol.specs.Peer.{Peer}
+use Rattle.dds_protocol.specs.Roster.{Roster}
 use Rattle.dds_core.specs.Observing.{Observes}
 use Rattle.dds_core.specs.Standing.{StandsFor}
 use Rattle.dds_core.specs.declared.observing.Observed.{Observed}
@@ -17,8 +17,8 @@ observed_of f = record { old_data = f.old_data; old_heartbeats = f.old_heartbeat
 
 -- so it is in each state that the peer stands for: of the writer that is asked for, else of all
 pub record IsObserved (s : Session) (of : Option Endpoint) (datagram : List ℕ) (seen : Observed) : Type 0 where
-  pub observes : (config : Config) (peer : Peer) → StandsFor s.core.filtered.peer config peer
-      → Observes config peer of datagram seen
+  pub observes : (roster : Roster) (peer : Peer) → StandsFor s.core.filtered.peer roster peer
+      → Observes roster peer of datagram seen
 
 -- it is written where a peer is open; else the code is 4, and nothing is written
 abbrev pub ObservedBy : Option Session → Option Endpoint → List ℕ → (was now : FlatObserved) → ℕ → Type 0

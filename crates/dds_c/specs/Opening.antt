@@ -23,6 +23,7 @@ use Rattle.dds_core.specs.Opening.{core_refusal, opening_peer}
 use Rattle.dds_core.specs.Ruling.{IsSound}
 use Rattle.dds_machine.specs.declared.reply.Reply.TheVariants.{Done}
 use Rattle.dds_protocol.specs.declared.event.Output.{Output}
+use Rattle.dds_protocol.specs.Roster.{roster_of}
 use Rattle.dds_c.specs.Answering.{refusing_number}
 use Rattle.dds_c.specs.Meaning.{recorder_notices, recorder_capacity, recorder_becomes}
 use Rattle.dds_c.specs.declared.config.FlatPeer.{FlatPeer}
@@ -133,8 +134,8 @@ no_output = record { reply = Done; packets = []; unsent = 0 }
 -- neither filters nor listeners, and nothing happened yet.
 pub record IsOpening (config : Config) (number : ℕ) (session : Session) : Type 0 where
   pub stands : StandsFor recorder_notices recorder_capacity recorder_becomes (no_listeners (opening_peer config number).part)
-      session.core config (opening_peer config number)
-  pub known : IsSound config (opening_peer config number)
+      session.core (roster_of config) (opening_peer config number)
+  pub known : IsSound (roster_of config) (opening_peer config number)
   pub filters : session.core.filtered.filters ≡ []
   pub taken : core_refusal config.peers number ≡ None
   pub last : session.last ≡ no_output

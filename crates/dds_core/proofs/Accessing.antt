@@ -4,7 +4,7 @@ use Rattle.std.specs.Prelude.{if◌then◌else◌, Result, Ok, Err}
 use Rattle.std.proofs.lemmas.Option.{slice_get_read}
 use Rattle.dds_base.specs.declared.code.Code.{Code}
 use Rattle.dds_base.specs.declared.code.Code.TheVariants.{BadParameter, NoData}
-use Rattle.dds_base.specs.declared.config.Config.{Config}
+use Rattle.dds_protocol.specs.Roster.{Roster}
 use Rattle.dds_base.specs.declared.guid.EntityId.{EntityId}
 use Rattle.dds_base.specs.declared.happening.Happening.{Happening}
 use Rattle.dds_base.specs.declared.happening.Happening.TheVariants.{Read as HasRead, Took}
@@ -167,14 +167,14 @@ after_access entry part reader samples = record part { dds = with_happening part
 
 -- an access that was entered
 entered : (tests : Tests) (entry : List SamplePosition → Happening) → IsQuiet entry
-    → (c : Call) (kept : PeerKept) (i : ℕ) (k k' : ReaderKept) (config : Config) (peer : Peer)
-    → StandsFor kept config peer → slice_get kept.readers i ≡ Some k → TakesOnly k k' → (reply : Reply)
+    → (c : Call) (kept : PeerKept) (i : ℕ) (k k' : ReaderKept) (roster : Roster) (peer : Peer)
+    → StandsFor kept roster peer → slice_get kept.readers i ≡ Some k → TakesOnly k k' → (reply : Reply)
     (samples : List SamplePosition)
     → CacheStandsFor k'.store.cache (entry samples ∷ (own_reader peer.part (suc i)).happened)
     → CallStep tests peer.part c reply (after_access entry peer.part (suc i) samples)
     → effect_of peer.part c reply ≡ nothing
-    → FollowsBy tests (with_reader kept i k') config peer (event.Call c) (silent reply)
-entered tests entry quiet c kept i k k' config peer s at same reply samples stands step none =
+    → FollowsBy tests (with_reader kept i k') roster peer (event.Call c) (silent reply)
+entered tests entry quiet c kept i k k' roster peer s at same reply samples stands step none =
     let part : Part = peer.part in
     let proxies : List WriterProxy = own_proxies part (suc i) in
     let r : Reader = own_reader part (suc i) in
@@ -188,19 +188,19 @@ entered tests entry quiet c kept i k k' config peer s at same reply samples stan
         step = (step, refl);
         sent = λ p x m h. absurd (omega (arith, m.1));
       },
-      own_reader_changed kept i k k' (record r { happened = entry samples ∷ r.happened }) config peer s at
+      own_reader_changed kept i k k' (record r { happened = entry samples ∷ r.happened }) roster peer s at
           (same_identity k' k same.entity same.writers same.qos) one,
     )
 
 -- an access that was refused, and is not entered
-not_entered : (tests : Tests) (c : Call) (kept : PeerKept) (i : ℕ) (k k' : ReaderKept) (config : Config) (peer : Peer)
-    (code : Code) → StandsFor kept config peer → slice_get kept.readers i ≡ Some k → k' ≡ k
+not_entered : (tests : Tests) (c : Call) (kept : PeerKept) (i : ℕ) (k k' : ReaderKept) (roster : Roster) (peer : Peer)
+    (code : Code) → StandsFor kept roster peer → slice_get kept.readers i ≡ Some k → k' ≡ k
     → CallAnswers tests peer.part c (Refused code) peer.part.dds
-    → FollowsBy tests (with_reader kept i k') config peer (event.Call c) (silent (Refused code))
-not_entered tests c kept i k k' config peer code s at same is =
+    → FollowsBy tests (with_reader kept i k') roster peer (event.Call c) (silent (Refused code))
+not_entered tests c kept i k k' roster peer code s at same is =
     let unchanged : set kept.readers i k' ≡ kept.readers = set_back kept.readers i k k' at same in
-    subst (λ (rs : List ReaderKept). FollowsBy tests (record kept { readers = rs }) config peer (event.Call c)
-    (silent (Refused code))) (sym unchanged) (refused_call kept config peer s c code is)
+    subst (λ (rs : List ReaderKept). FollowsBy tests (record kept { readers = rs }) roster peer (event.Call c)
+    (silent (Refused code))) (sym unchanged) (refused_call kept roster peer s c code is)
 
 kept_same : (k k' : ReaderKept) → TakesOnly k k' → k'.store.cache ≡ k.store.cache → k' ≡ k
 kept_same k k' same cache =
@@ -225,16 +225,16 @@ kept_same k k' same cache =
 
 -- what a cache answers is what the machine answers
 accessed : (tests : Tests) (kind : AccessKind) (c : Call) (test : Test) (i : ℕ) (selection : Selection)
-    (kept : PeerKept) (k k' : ReaderKept) (config : Config) (peer : Peer)
-    → IsAccess tests peer.part c kind test (suc i) selection → StandsFor kept config peer
+    (kept : PeerKept) (k k' : ReaderKept) (roster : Roster) (peer : Peer)
+    → IsAccess tests peer.part c kind test (suc i) selection → StandsFor kept roster peer
     → slice_get kept.readers i ≡ Some k → TakesOnly k k' → (r : Result (List Sample) Code)
     → access_refusal peer.part (suc i) selection
     ≡ refusal k.store.cache (own_reader peer.part (suc i)).happened selection
     → (own_reader peer.part (suc i)).qos ≡ qos_of k.store.cache
     → AccessAnswers k.store.cache (own_reader peer.part (suc i)).happened selection test r
     → AfterAccess kind k.store.cache (own_reader peer.part (suc i)).happened selection test r k'.store.cache
-    → FollowsBy tests (with_reader kept i k') config peer (event.Call c) (silent (access_reply r))
-accessed tests kind c test i selection kept k k' config peer is s at same (Ok samples) causes qos answer after =
+    → FollowsBy tests (with_reader kept i k') roster peer (event.Call c) (silent (access_reply r))
+accessed tests kind c test i selection kept k k' roster peer is s at same (Ok samples) causes qos answer after =
     let h : List Happening = (own_reader peer.part (suc i)).happened in
     let found : picked k.store.cache h selection test ≡ picked_at test peer.part (suc i) selection =
     ap (λ (q : ReaderQos). picked_by q h selection test) (sym qos) in
@@ -243,7 +243,7 @@ accessed tests kind c test i selection kept k k' config peer is s at same (Ok sa
     (picked_at test peer.part (suc i) selection) =
     answer.2 ∙ (ap (λ (ps : List SamplePosition). collection_of (qos_of k.store.cache) h ps) found
     ∙ ap (λ (q : ReaderQos). collection_of q h (picked_at test peer.part (suc i) selection)) (sym qos)) in
-    entered tests (entry_of kind) (access_is_quiet kind) c kept i k k' config peer s at same (Samples samples)
+    entered tests (entry_of kind) (access_is_quiet kind) c kept i k k' roster peer s at same (Samples samples)
     (picked_at test peer.part (suc i) selection)
     (subst (λ (ps : List SamplePosition). CacheStandsFor k'.store.cache (entry_of kind ps ∷ h)) found after)
     (record {
@@ -254,11 +254,11 @@ accessed tests kind c test i selection kept k k' config peer is s at same (Ok sa
           (sym (is.effect (Samples samples)));
     })
     (is.effect (Samples samples))
-accessed tests kind c test i selection kept k k' config peer is s at same (Err NoData) causes qos answer after =
+accessed tests kind c test i selection kept k k' roster peer is s at same (Err NoData) causes qos answer after =
     let h : List Happening = (own_reader peer.part (suc i)).happened in
     let found : picked k.store.cache h selection test ≡ picked_at test peer.part (suc i) selection =
     ap (λ (q : ReaderQos). picked_by q h selection test) (sym qos) in
-    entered tests (entry_of kind) (access_is_quiet kind) c kept i k k' config peer s at same (Refused NoData) [] after
+    entered tests (entry_of kind) (access_is_quiet kind) c kept i k k' roster peer s at same (Refused NoData) [] after
     (record {
       answers = is.answers (Refused NoData) (with_happening peer.part (suc i) (entry_of kind []))
           (causes ∙ answer.0, sym found ∙ answer.1, refl);
@@ -266,8 +266,8 @@ accessed tests kind c test i selection kept k k' config peer is s at same (Err N
           (sym (is.effect (Refused NoData)));
     })
     (is.effect (Refused NoData))
-accessed tests kind c test i selection kept k k' config peer is s at same (Err code) causes qos answer after =
-    not_entered tests c kept i k k' config peer code s at (kept_same k k' same after)
+accessed tests kind c test i selection kept k k' roster peer is s at same (Err code) causes qos answer after =
+    not_entered tests c kept i k k' roster peer code s at (kept_same k k' same after)
     (is.answers (Refused code) peer.part.dds (
       subst (λ (o : Option Code). Refuses o code) (sym causes) answer.0,
       refl,
@@ -279,15 +279,15 @@ accessed tests kind c test i selection kept k k' config peer is s at same (Err c
 
 -- the same of the reader of a number, where it stands in the opened peer
 pub accessed_at : {tests : Tests} {kind : AccessKind} {c : Call} {test : Test} {reader : ℕ}
-    {selection : Selection} {kept now : PeerKept} (i : ℕ) (k k' : ReaderKept) (config : Config) (peer : Peer)
-    → kept ≡ now → StandsFor now config peer → IsAccess tests peer.part c kind test reader selection
+    {selection : Selection} {kept now : PeerKept} (i : ℕ) (k k' : ReaderKept) (roster : Roster) (peer : Peer)
+    → kept ≡ now → StandsFor now roster peer → IsAccess tests peer.part c kind test reader selection
     → reader ≡ i + 1 → i < length kept.readers → k ≡ get_or kept.readers i k → TakesOnly k k'
     → (r : Result (List Sample) Code)
     → ((h : List Happening) → Holds k.store h → AccessAnswers k.store.cache h selection test r)
     → ((h : List Happening) → Holds k.store h → AfterAccess kind k.store.cache h selection test r k'.store.cache)
     → (output : Output) (reply : Reply) → output ≡ silent reply → reply ≡ access_reply r
-    → FollowsBy tests (with_reader kept i k') config peer (event.Call c) output
-accessed_at {tests} {kind} {c} {test} {selection = selection} {kept} i k k' config peer view given is number lt element
+    → FollowsBy tests (with_reader kept i k') roster peer (event.Call c) output
+accessed_at {tests} {kind} {c} {test} {selection = selection} {kept} i k k' roster peer view given is number lt element
     same r answer after output reply told replied =
     let s = still_stands view given in
     let at : slice_get kept.readers i ≡ Some k =
@@ -302,7 +302,7 @@ accessed_at {tests} {kind} {c} {test} {selection = selection} {kept} i k k' conf
     ap (λ (b : Bool). if not b then Some BadParameter else selection_refusal
     (own_reader peer.part (suc i)).qos h selection) known
     ∙ ap (λ (q : ReaderQos). selection_refusal q h selection) rs.qos_is in
-    follows_as _ config peer (event.Call c) (silent (access_reply r)) output (told ∙ ap silent replied)
-    (accessed tests kind c test i selection kept k k' config peer
+    follows_as _ roster peer (event.Call c) (silent (access_reply r)) output (told ∙ ap silent replied)
+    (accessed tests kind c test i selection kept k k' roster peer
     (subst (λ (n : ℕ). IsAccess tests peer.part c kind test n selection) (number ∙ index) is) s at same r causes
     rs.qos_is (answer h rs.holds) (after h rs.holds))

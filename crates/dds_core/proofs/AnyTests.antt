@@ -1,6 +1,6 @@
 -- Events in which no filter has a say: they are the same by any filters.
 use Rattle.std.proofs.Common.{◌≡◌, ℕ, Bool, true, false, List, sym, subst}
-use Rattle.dds_base.specs.declared.config.Config.{Config}
+use Rattle.dds_protocol.specs.Roster.{Roster}
 use Rattle.dds_conditions.specs.NoFilters.{no_filters}
 use Rattle.dds_machine.specs.declared.call.Call.{Call}
 use Rattle.dds_machine.specs.declared.call.Call.TheVariants as call
@@ -34,8 +34,8 @@ any_answers tests old other reply dds plain a = a
 -- a call
 pub any_call : (tests : Tests) (old new : PeerKept) (c : Call) (output : Output) → Steps old (event.Call c) output new
     → is_plain c ≡ true → StepsBy tests old (event.Call c) output new
-any_call tests old new c output steps plain = λ config peer s.
-    let r = steps config peer s in (
+any_call tests old new c output steps plain = λ roster peer s.
+    let r = steps roster peer s in (
       r.0,
       record {
         same_number = r.1.same_number;
@@ -67,26 +67,26 @@ plainly_called tests old new given c output is steps plain =
 -- a tick
 pub any_tick : (tests : Tests) (old new : PeerKept) (now : ℕ) (output : Output)
     → SoundSteps old (event.Tick now) output new → SoundStepsBy tests old (event.Tick now) output new
-any_tick tests old new now output steps = λ config peer s sound.
-    let r = steps config peer s sound in
+any_tick tests old new now output steps = λ roster peer s sound.
+    let r = steps roster peer s sound in
     (r.0, record { same_number = r.1.same_number; knows = r.1.knows; step = r.1.step; sent = r.1.sent }, r.2, r.3, r.4)
 
 -- a delivery
-any_report : (config : Config) (tests : Tests) (old : Peer) (packet : List ℕ) (reply : Reply) (new : Peer)
-    → EventStep config no_filters old (event.Deliver packet) reply new
-    → EventStep config tests old (event.Deliver packet) reply new
-any_report config tests old packet (Reported report) new h = h
-any_report config tests old packet reply new h = absurd h
+any_report : (roster : Roster) (tests : Tests) (old : Peer) (packet : List ℕ) (reply : Reply) (new : Peer)
+    → EventStep roster no_filters old (event.Deliver packet) reply new
+    → EventStep roster tests old (event.Deliver packet) reply new
+any_report roster tests old packet (Reported report) new h = h
+any_report roster tests old packet reply new h = absurd h
 
 pub any_delivery : (tests : Tests) (old new : PeerKept) (packet : List ℕ) (output : Output)
     → SoundSteps old (event.Deliver packet) output new → SoundStepsBy tests old (event.Deliver packet) output new
-any_delivery tests old new packet output steps = λ config peer s sound.
-    let r = steps config peer s sound in (
+any_delivery tests old new packet output steps = λ roster peer s sound.
+    let r = steps roster peer s sound in (
       r.0,
       record {
         same_number = r.1.same_number;
         knows = r.1.knows;
-        step = any_report config tests peer packet output.reply r.0 r.1.step;
+        step = any_report roster tests peer packet output.reply r.0 r.1.step;
         sent = r.1.sent;
       },
       r.2,
@@ -97,6 +97,6 @@ any_delivery tests old new packet output steps = λ config peer s sound.
 -- places that are tried again
 pub any_resume : (tests : Tests) (old new : PeerKept) (reader : ℕ) (output : Output)
     → SoundSteps old (event.Resume reader) output new → SoundStepsBy tests old (event.Resume reader) output new
-any_resume tests old new reader output steps = λ config peer s sound.
-    let r = steps config peer s sound in
+any_resume tests old new reader output steps = λ roster peer s sound.
+    let r = steps roster peer s sound in
     (r.0, record { same_number = r.1.same_number; knows = r.1.knows; step = r.1.step; sent = r.1.sent }, r.2, r.3, r.4)

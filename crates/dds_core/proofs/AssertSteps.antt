@@ -3,7 +3,7 @@ use Rattle.std.proofs.Common.{◌≡◌, ℕ, suc, ◌+◌, ◌-◌, ◌^◌, �
 use Rattle.std.specs.Prelude.{nat_le, if◌then◌else◌}
 use Rattle.dds_base.specs.declared.code.Code.{Code}
 use Rattle.dds_base.specs.declared.code.Code.TheVariants.{BadParameter, OutOfResources}
-use Rattle.dds_base.specs.declared.config.Config.{Config}
+use Rattle.dds_protocol.specs.Roster.{Roster}
 use Rattle.dds_base.specs.declared.guid.GuidPrefix.{GuidPrefix}
 use Rattle.dds_base.specs.Written.{Asserted}
 use Rattle.dds_base.specs.declared.endpoint.Endpoint.{Endpoint}
@@ -33,51 +33,52 @@ use Rattle.dds_ends.proofs.MatchedAt.{named_there}
 use Rattle.dds_core.proofs.Taking.{silent}
 use Rattle.dds_core.proofs.Tellable.{tellable_entered}
 
--- what tells an assertion, by the configuration
-pub assertions_are : (config : Config) (peer : ℕ) (prefix : GuidPrefix) (number : ℕ) (k : WriterKept) (w : Writer)
-    (answered : Endpoint → Contact) → IsNamed config peer prefix number k w → EndsAlike k w answered
-    → assertions_of prefix k w answered ≡ assertions_due config answered (record { peer = peer; number = number }) w
-assertions_are config peer prefix number k w answered is alike =
-    sent_are_due config true peer prefix number k.entity w answered k.matched k.destinations is.own is.entity
-    (λ j n at. named_reader config is.topic n (is.ends.readers j n at))
+-- what tells an assertion, by the roster
+pub assertions_are : (roster : Roster) (peer : ℕ) (prefix : GuidPrefix) (number : ℕ) (k : WriterKept) (w : Writer)
+    (answered : Endpoint → Contact) → IsNamed roster peer prefix number k w → EndsAlike k w answered
+    → assertions_of prefix k w answered ≡ assertions_due roster answered (record { peer = peer; number = number }) w
+assertions_are roster peer prefix number k w answered is alike =
+    sent_are_due roster true peer prefix number k.entity w answered k.matched k.destinations is.own is.entity
+    (λ j n at. named_reader roster (record { peer = peer; number = number }) n (is.ends.readers j n at))
     (λ j n at. alike n.reader (λ none. named_there k.matched j n n.reader at refl))
-    is.ends.sent_to (all_named config is.topic k.matched k.destinations k.readers is.ends)
-    ∙ ap (λ (es : List Endpoint). heartbeats_for config true true peer number answered w es) (sym is.matched)
+    is.ends.sent_to
+    (all_named roster (record { peer = peer; number = number }) k.matched k.destinations k.readers is.ends)
+    ∙ ap (λ (es : List Endpoint). heartbeats_for roster true true peer number answered w es) (sym is.matched)
 
 -- the peer's writer of this index, and what is told of it
-told_at : (kept : PeerKept) (i : ℕ) (k : WriterKept) (config : Config) (peer : Peer)
-    → (s : StandsFor kept config peer) → slice_get kept.writers i ≡ Some k
+told_at : (kept : PeerKept) (i : ℕ) (k : WriterKept) (roster : Roster) (peer : Peer)
+    → (s : StandsFor kept roster peer) → slice_get kept.writers i ≡ Some k
     → (packets : List Packet) (unsent : ℕ) → TellsOf kept.prefix k packets unsent
     → (nat_le (2 ^ 31 - 1) (heartbeats_used (own_writer peer.part (suc i))) ≡ false)
-    × AreSent (assertions_due config (peer.known.answered (suc i)) (record { peer = peer.number; number = suc i })
+    × AreSent (assertions_due roster (peer.known.answered (suc i)) (record { peer = peer.number; number = suc i })
     (own_writer peer.part (suc i))) packets unsent
-told_at kept i k config peer s at packets unsent tells =
+told_at kept i k roster peer s at packets unsent tells =
     let w : Writer = own_writer peer.part (suc i) in
     let answered : Endpoint → Contact = peer.known.answered (suc i) in
     let stands = s.writers.each i k at in
     let told = tells w answered stands in
     let next : 1 + i ≡ suc i = omega arith in
-    let is : IsNamed config peer.number kept.prefix (suc i) k w =
-    subst (λ (n : ℕ). IsNamed config peer.number kept.prefix n k w) next (named config peer kept s i k at) in (
+    let is : IsNamed roster peer.number kept.prefix (suc i) k w =
+    subst (λ (n : ℕ). IsNamed roster peer.number kept.prefix n k w) next (named roster peer kept s i k at) in (
       told.0,
       subst (λ (dues : List Due). AreSent dues packets unsent)
-          (assertions_are config peer.number kept.prefix (suc i) k w answered is (ends_alike k w answered stands))
+          (assertions_are roster peer.number kept.prefix (suc i) k w answered is (ends_alike k w answered stands))
           told.1,
     )
 
-asserts : (kept : PeerKept) (i : ℕ) (k k' : WriterKept) (config : Config) (peer : Peer)
-    → StandsFor kept config peer → slice_get kept.writers i ≡ Some k → i < length kept.writers
+asserts : (kept : PeerKept) (i : ℕ) (k k' : WriterKept) (roster : Roster) (peer : Peer)
+    → StandsFor kept roster peer → slice_get kept.writers i ≡ Some k → i < length kept.writers
     → Enters k (Asserted kept.moment) k'
     → (packets : List Packet) (unsent : ℕ) → TellsOf kept.prefix k packets unsent
-    → Follows (with_writer kept i k') config peer (event.Call (call.AssertLiveliness (suc i)))
+    → Follows (with_writer kept i k') roster peer (event.Call (call.AssertLiveliness (suc i)))
     (record { reply = Done; packets = packets; unsent = unsent })
-asserts kept i k k' config peer s at lt enters packets unsent tells =
+asserts kept i k k' roster peer s at lt enters packets unsent tells =
     let count = s.writers.count in
     let known : has_element peer.part.rtps.writers (suc i) ≡ true =
     there_is peer.part.rtps.writers i (omega (arith, lt, count)) in
     let w : Writer = own_writer peer.part (suc i) in
     let now : ℕ = peer.part.dds.moment in
-    let told = told_at kept i k config peer s at packets unsent tells in
+    let told = told_at kept i k roster peer s at packets unsent tells in
     let accepted : assert_refusal peer.part (suc i) ≡ None =
     ap (λ (b : Bool). if not b then Some BadParameter else (if nat_le (2 ^ 31 - 1)
     (heartbeats_used w) then Some OutOfResources else None)) known
@@ -87,50 +88,50 @@ asserts kept i k k' config peer s at lt enters packets unsent tells =
     let step : CallStep no_filters peer.part (call.AssertLiveliness (suc i)) Done after.part =
     record { answers = answered_as _ Done peer.part.dds peer.part Done accepted refl; rtps = refl } in
     let truthful =
-    assertions_true config no_filters (peer.known.answered (suc i)) peer.number (suc i) peer.part after.part
-    s.is_peer.roster (part_of config peer kept s) step in (
+    assertions_true roster no_filters (peer.known.answered (suc i)) peer.number (suc i) peer.part after.part
+    s.is_peer.is_roster (part_of roster peer kept s) step in (
       after,
       record {
         same_number = refl;
         knows = refl;
         step = (step, refl);
         sent =
-            sent_true config peer.number after.part
-            (assertions_due config (peer.known.answered (suc i)) (record { peer = peer.number; number = suc i }) w)
+            sent_true roster peer.number after.part
+            (assertions_due roster (peer.known.answered (suc i)) (record { peer = peer.number; number = suc i }) w)
             packets unsent truthful told.1;
       },
-      own_writer_stepped kept i k k' (Asserted now) config peer s at entered
+      own_writer_stepped kept i k k' (Asserted now) roster peer s at entered
           (tellable_entered peer (suc i) (Asserted now) s.tellable tt),
     )
 
 -- so it is of the writer of a number
-pub asserts_at : (kept : PeerKept) (writer i : ℕ) (k k' : WriterKept) (config : Config) (peer : Peer)
-    → StandsFor kept config peer → writer ≡ i + 1 → slice_get kept.writers i ≡ Some k → i < length kept.writers
+pub asserts_at : (kept : PeerKept) (writer i : ℕ) (k k' : WriterKept) (roster : Roster) (peer : Peer)
+    → StandsFor kept roster peer → writer ≡ i + 1 → slice_get kept.writers i ≡ Some k → i < length kept.writers
     → Enters k (Asserted kept.moment) k' → (packets : List Packet) (unsent : ℕ)
     → TellsOf kept.prefix k packets unsent
-    → Follows (with_writer kept i k') config peer (event.Call (call.AssertLiveliness writer))
+    → Follows (with_writer kept i k') roster peer (event.Call (call.AssertLiveliness writer))
     (record { reply = Done; packets = packets; unsent = unsent })
-asserts_at kept writer i k k' config peer s is at lt enters packets unsent tells =
-    subst (λ (n : ℕ). Follows (with_writer kept i k') config peer (event.Call (call.AssertLiveliness n))
+asserts_at kept writer i k k' roster peer s is at lt enters packets unsent tells =
+    subst (λ (n : ℕ). Follows (with_writer kept i k') roster peer (event.Call (call.AssertLiveliness n))
     (record { reply = Done; packets = packets; unsent = unsent }))
-    (number_is writer i is) (asserts kept i k k' config peer s at lt enters packets unsent tells)
+    (number_is writer i is) (asserts kept i k k' roster peer s at lt enters packets unsent tells)
 
-pub asserts_sends : (kept : PeerKept) (writer i : ℕ) (k : WriterKept) (config : Config) (peer : Peer)
-    → StandsFor kept config peer → writer ≡ i + 1 → slice_get kept.writers i ≡ Some k
+pub asserts_sends : (kept : PeerKept) (writer i : ℕ) (k : WriterKept) (roster : Roster) (peer : Peer)
+    → StandsFor kept roster peer → writer ≡ i + 1 → slice_get kept.writers i ≡ Some k
     → (packets : List Packet) (unsent : ℕ) → TellsOf kept.prefix k packets unsent
-    → AreSent (assertions_due config (peer.known.answered writer) (record { peer = peer.number; number = writer })
+    → AreSent (assertions_due roster (peer.known.answered writer) (record { peer = peer.number; number = writer })
     (own_writer peer.part writer)) packets unsent
-asserts_sends kept writer i k config peer s is at packets unsent tells =
+asserts_sends kept writer i k roster peer s is at packets unsent tells =
     subst (λ (n : ℕ). AreSent
-    (assertions_due config (peer.known.answered n) (record { peer = peer.number; number = n }) (own_writer peer.part n))
+    (assertions_due roster (peer.known.answered n) (record { peer = peer.number; number = n }) (own_writer peer.part n))
     packets unsent)
-    (number_is writer i is) (told_at kept i k config peer s at packets unsent tells).1
+    (number_is writer i is) (told_at kept i k roster peer s at packets unsent tells).1
 
 -- where its counts are used up, nothing happens
-refuses : (kept : PeerKept) (i : ℕ) (k : WriterKept) (config : Config) (peer : Peer)
-    → StandsFor kept config peer → slice_get kept.writers i ≡ Some k → i < length kept.writers → HasNoCount k
-    → Follows kept config peer (event.Call (call.AssertLiveliness (suc i))) (silent (Refused OutOfResources))
-refuses kept i k config peer s at lt used =
+refuses : (kept : PeerKept) (i : ℕ) (k : WriterKept) (roster : Roster) (peer : Peer)
+    → StandsFor kept roster peer → slice_get kept.writers i ≡ Some k → i < length kept.writers → HasNoCount k
+    → Follows kept roster peer (event.Call (call.AssertLiveliness (suc i))) (silent (Refused OutOfResources))
+refuses kept i k roster peer s at lt used =
     let count = s.writers.count in
     let known : has_element peer.part.rtps.writers (suc i) ≡ true =
     there_is peer.part.rtps.writers i (omega (arith, lt, count)) in
@@ -140,17 +141,17 @@ refuses kept i k config peer s at lt used =
     (heartbeats_used w) then Some OutOfResources else None)) known
     ∙ ap (λ (b : Bool). if b then Some OutOfResources else None)
     (used w (peer.known.answered (suc i)) (s.writers.each i k at)) in
-    refused_call kept config peer s (call.AssertLiveliness (suc i)) OutOfResources
+    refused_call kept roster peer s (call.AssertLiveliness (suc i)) OutOfResources
     (refused_as _ Done peer.part.dds peer.part OutOfResources is)
 
-pub refuses_at : (kept : PeerKept) (writer i : ℕ) (k k' : WriterKept) (code : Code) (config : Config) (peer : Peer)
-    → StandsFor kept config peer → writer ≡ i + 1 → slice_get kept.writers i ≡ Some k → i < length kept.writers
+pub refuses_at : (kept : PeerKept) (writer i : ℕ) (k k' : WriterKept) (code : Code) (roster : Roster) (peer : Peer)
+    → StandsFor kept roster peer → writer ≡ i + 1 → slice_get kept.writers i ≡ Some k → i < length kept.writers
     → (code ≡ OutOfResources) × HasNoCount k → k' ≡ k
-    → Follows (with_writer kept i k') config peer (event.Call (call.AssertLiveliness writer)) (silent (Refused code))
-refuses_at kept writer i k k' code config peer s is at lt used same =
-    subst (λ (x : PeerKept). Follows x config peer (event.Call (call.AssertLiveliness writer)) (silent (Refused code)))
+    → Follows (with_writer kept i k') roster peer (event.Call (call.AssertLiveliness writer)) (silent (Refused code))
+refuses_at kept writer i k k' code roster peer s is at lt used same =
+    subst (λ (x : PeerKept). Follows x roster peer (event.Call (call.AssertLiveliness writer)) (silent (Refused code)))
     (sym (unchanged_with kept i k k' at same))
-    (subst (λ (n : ℕ). Follows kept config peer (event.Call (call.AssertLiveliness n)) (silent (Refused code)))
+    (subst (λ (n : ℕ). Follows kept roster peer (event.Call (call.AssertLiveliness n)) (silent (Refused code)))
     (number_is writer i is)
-    (subst (λ (x : Code). Follows kept config peer (event.Call (call.AssertLiveliness (suc i))) (silent (Refused x)))
-    (sym used.0) (refuses kept i k config peer s at lt used.1)))
+    (subst (λ (x : Code). Follows kept roster peer (event.Call (call.AssertLiveliness (suc i))) (silent (Refused x)))
+    (sym used.0) (refuses kept i k roster peer s at lt used.1)))

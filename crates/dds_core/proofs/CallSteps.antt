@@ -7,7 +7,7 @@ use Rattle.dds_base.specs.declared.change.ChangeKind.{ChangeKind}
 use Rattle.dds_base.specs.declared.change.ChangeKind.TheVariants as kind
 use Rattle.dds_base.specs.declared.code.Code.{Code}
 use Rattle.dds_base.specs.declared.code.Code.TheVariants.{BadParameter, PreconditionNotMet, Memory}
-use Rattle.dds_base.specs.declared.config.Config.{Config}
+use Rattle.dds_protocol.specs.Roster.{Roster}
 use Rattle.dds_base.specs.declared.key.Key.{Key}
 use Rattle.dds_base.specs.declared.status.LivelinessLostStatus.{LivelinessLostStatus}
 use Rattle.dds_base.specs.Refusal.{Refuses}
@@ -44,8 +44,7 @@ use Rattle.dds_ends.specs.Stepping.{Enters, AllTick}
 use Rattle.dds_ends.specs.Beating.{BeatsOfAll}
 use Rattle.dds_core.proofs.BeatsDue.{due_true}
 use Rattle.dds_ends.proofs.Dying.{expired_names, peer_past_counting, readers_expired}
-use Rattle.dds_ends.proofs.Lists.{get-within}
-use Rattle.dds_core.proofs.Limited.{value_limited}
+use Rattle.dds_ends.proofs.Lists.{get-within, map-get}
 use Rattle.dds_core.proofs.Ends.{with_writer, entered_at, own_writer_stepped, unchanged_with}
 use Rattle.dds_core.proofs.Taking.{silent}
 use Rattle.dds_core.proofs.Tellable.{tellable_entered, tellable_ticked}
@@ -55,24 +54,24 @@ pub silent_sends : (reply : Reply) → SendsNothing (silent reply)
 silent_sends reply = record { packets = refl; unsent = refl }
 
 -- what follows an event, for a state that stands
-abbrev pub FollowsBy : Tests → PeerKept → Config → Peer → Event → Output → Type 0
-FollowsBy tests kept config peer ev output =
-    (after : Peer) × PeerStep config tests peer ev output after × StandsFor kept config after
+abbrev pub FollowsBy : Tests → PeerKept → Roster → Peer → Event → Output → Type 0
+FollowsBy tests kept roster peer ev output =
+    (after : Peer) × PeerStep roster tests peer ev output after × StandsFor kept roster after
 
 -- the same of an event in which no filter has a say
-abbrev pub Follows : PeerKept → Config → Peer → Event → Output → Type 0
-Follows kept config peer ev output = FollowsBy no_filters kept config peer ev output
+abbrev pub Follows : PeerKept → Roster → Peer → Event → Output → Type 0
+Follows kept roster peer ev output = FollowsBy no_filters kept roster peer ev output
 
 -- what a peer stands for, it stands for once it is open
-pub still_stands : {inside now : PeerKept} {config : Config} {peer : Peer} → inside ≡ now → StandsFor now config peer
-    → StandsFor inside config peer
-still_stands {config = config} {peer} view s = subst (λ (k : PeerKept). StandsFor k config peer) (sym view) s
+pub still_stands : {inside now : PeerKept} {roster : Roster} {peer : Peer} → inside ≡ now → StandsFor now roster peer
+    → StandsFor inside roster peer
+still_stands {roster = roster} {peer} view s = subst (λ (k : PeerKept). StandsFor k roster peer) (sym view) s
 
 -- the same of another name for the output
-pub follows_as : {tests : Tests} (kept : PeerKept) (config : Config) (peer : Peer) (ev : Event) (o p : Output) → p ≡ o
-    → FollowsBy tests kept config peer ev o → FollowsBy tests kept config peer ev p
-follows_as {tests} kept config peer ev o p same h =
-    subst (λ (x : Output). FollowsBy tests kept config peer ev x) (sym same) h
+pub follows_as : {tests : Tests} (kept : PeerKept) (roster : Roster) (peer : Peer) (ev : Event) (o p : Output) → p ≡ o
+    → FollowsBy tests kept roster peer ev o → FollowsBy tests kept roster peer ev p
+follows_as {tests} kept roster peer ev o p same h =
+    subst (λ (x : Output). FollowsBy tests kept roster peer ev x) (sym same) h
 
 -- what is refused enters nothing; the first row is there so that the second is read call by call
 pub refused_nothing : (part : Part) (c : Call) (x : Code) → effect_of part c (Refused x) ≡ nothing
@@ -105,11 +104,11 @@ knows_still peer (call.MatchReader w reader greeted) reply e is none = refl
 knows_still peer other reply e is none = refl
 
 -- a call that changes nothing
-pub unchanging_call : {tests : Tests} (kept : PeerKept) (config : Config) (peer : Peer) → StandsFor kept config peer
+pub unchanging_call : {tests : Tests} (kept : PeerKept) (roster : Roster) (peer : Peer) → StandsFor kept roster peer
     → (c : Call) (reply : Reply)
     → effect_of peer.part c reply ≡ nothing → Answers tests peer.part c reply peer.part.dds
-    → FollowsBy tests kept config peer (event.Call c) (silent reply)
-unchanging_call kept config peer s c reply none is = (
+    → FollowsBy tests kept roster peer (event.Call c) (silent reply)
+unchanging_call kept roster peer s c reply none is = (
   peer,
   record {
     same_number = refl;
@@ -121,12 +120,12 @@ unchanging_call kept config peer s c reply none is = (
 )
 
 -- so does one that is refused
-pub refused_call : {tests : Tests} (kept : PeerKept) (config : Config) (peer : Peer) → StandsFor kept config peer
+pub refused_call : {tests : Tests} (kept : PeerKept) (roster : Roster) (peer : Peer) → StandsFor kept roster peer
     → (c : Call) (code : Code)
     → Answers tests peer.part c (Refused code) peer.part.dds
-    → FollowsBy tests kept config peer (event.Call c) (silent (Refused code))
-refused_call kept config peer s c code is =
-    unchanging_call kept config peer s c (Refused code) (refused_nothing peer.part c code) is
+    → FollowsBy tests kept roster peer (event.Call c) (silent (Refused code))
+refused_call kept roster peer s c code is =
+    unchanging_call kept roster peer s c (Refused code) (refused_nothing peer.part c code) is
 
 -- numbers of writers and readers
 
@@ -206,11 +205,11 @@ register_done part w key known =
     inl (subst (λ (o : Option Code). IsAnsweredWatching o Done part.dds.watch part Done part.dds)
     (sym (good_register part w known)) (refl, refl))
 
-pub registers : (kept : PeerKept) (i : ℕ) (k k' : WriterKept) (key : Key) (config : Config) (peer : Peer)
-    → StandsFor kept config peer → slice_get kept.writers i ≡ Some k → i < length kept.writers
+pub registers : (kept : PeerKept) (i : ℕ) (k k' : WriterKept) (key : Key) (roster : Roster) (peer : Peer)
+    → StandsFor kept roster peer → slice_get kept.writers i ≡ Some k → i < length kept.writers
     → Enters k (Registered key) k'
-    → Follows (with_writer kept i k') config peer (event.Call (call.Register (suc i) key)) (silent Done)
-registers kept i k k' key config peer s at lt enters =
+    → Follows (with_writer kept i k') roster peer (event.Call (call.Register (suc i) key)) (silent Done)
+registers kept i k k' key roster peer s at lt enters =
     let count = s.writers.count in
     let known : has_element peer.part.rtps.writers (suc i) ≡ true =
     there_is peer.part.rtps.writers i (omega (arith, lt, count)) in (
@@ -222,18 +221,18 @@ registers kept i k k' key config peer s at lt enters =
         sent = λ p x m h.
             absurd (omega (arith, m.1));
       },
-      own_writer_stepped kept i k k' (Registered key) config peer s at enters
+      own_writer_stepped kept i k k' (Registered key) roster peer s at enters
           (tellable_entered peer (suc i) (Registered key) s.tellable tt),
     )
 
 -- a look at LIVELINESS_LOST
-looks : (kept : PeerKept) (i : ℕ) (k k' : WriterKept) (status : LivelinessLostStatus) (config : Config) (peer : Peer)
-    → StandsFor kept config peer → slice_get kept.writers i ≡ Some k → i < length kept.writers
+looks : (kept : PeerKept) (i : ℕ) (k k' : WriterKept) (status : LivelinessLostStatus) (roster : Roster) (peer : Peer)
+    → StandsFor kept roster peer → slice_get kept.writers i ≡ Some k → i < length kept.writers
     → ((w : Writer) (answered : Endpoint → Contact) → WriterStands k w answered
     → status ≡ liveliness_lost_status w.lease w.written) → Enters k LookedAt k'
-    → Follows (with_writer kept i k') config peer (event.Call (call.GetLivelinessLost (suc i)))
+    → Follows (with_writer kept i k') roster peer (event.Call (call.GetLivelinessLost (suc i)))
     (silent (LivelinessLost status))
-looks kept i k k' status config peer s at lt tells enters =
+looks kept i k k' status roster peer s at lt tells enters =
     let count = s.writers.count in
     let known : writer_refusal peer.part (suc i) ≡ None =
     ap (λ (b : Bool). if not b then Some BadParameter else None)
@@ -257,7 +256,7 @@ looks kept i k k' status config peer s at lt tells enters =
         sent = λ p x m h.
             absurd (omega (arith, m.1));
       },
-      own_writer_stepped kept i k k' LookedAt config peer s at enters
+      own_writer_stepped kept i k k' LookedAt roster peer s at enters
           (tellable_entered peer (suc i) LookedAt s.tellable tt),
     )
 
@@ -323,15 +322,15 @@ unregister_makes part w key known there = record {
 
 -- a call that makes a change
 
-pub made_steps : (kept new : PeerKept) (config : Config) (peer : Peer) → StandsFor kept config peer
+pub made_steps : (kept new : PeerKept) (roster : Roster) (peer : Peer) → StandsFor kept roster peer
     → (c : Call) (w : ℕ) (change : Change) (output : Output) → MakesChange peer.part c w change
-    → IsMade config peer w change output new ⊎ IsNotMade config peer w change output new
-    → Follows new config peer (event.Call c) output
-made_steps kept new config peer s c w change output makes (inr not_made) =
-    subst (λ (o : Output). Follows new config peer (event.Call c) o) (sym not_made.output_is)
-    (refused_call new config peer not_made.stands c not_made.code
+    → IsMade roster peer w change output new ⊎ IsNotMade roster peer w change output new
+    → Follows new roster peer (event.Call c) output
+made_steps kept new roster peer s c w change output makes (inr not_made) =
+    subst (λ (o : Output). Follows new roster peer (event.Call c) o) (sym not_made.output_is)
+    (refused_call new roster peer not_made.stands c not_made.code
     (makes.answers (Refused not_made.code) peer.part.dds (not_made.cause, refl)))
-made_steps kept new config peer s c w change output makes (inl made) =
+made_steps kept new roster peer s c w change output makes (inl made) =
     let after : Peer = record peer { part = entered peer.part w change } in
     let step : CallStep no_filters peer.part c Done after.part =
     record {
@@ -351,31 +350,31 @@ made_steps kept new config peer s c w change output makes (inl made) =
       made.stands,
     )
 
-pub made_sends : (new : PeerKept) (config : Config) (peer : Peer) (c : Call) (w : ℕ) (change : Change) (output : Output)
-    → MakesChange peer.part c w change → IsMade config peer w change output new
-    ⊎ IsNotMade config peer w change output new
-    → SendsFor config peer (effect_of peer.part c output.reply) output
-made_sends new config peer c w change output makes (inr not_made) =
-    subst (λ (o : Output). SendsFor config peer (effect_of peer.part c o.reply) o) (sym not_made.output_is)
-    (subst (λ (e : Effect). SendsFor config peer e (silent (Refused not_made.code)))
+pub made_sends : (new : PeerKept) (roster : Roster) (peer : Peer) (c : Call) (w : ℕ) (change : Change) (output : Output)
+    → MakesChange peer.part c w change → IsMade roster peer w change output new
+    ⊎ IsNotMade roster peer w change output new
+    → SendsFor roster peer (effect_of peer.part c output.reply) output
+made_sends new roster peer c w change output makes (inr not_made) =
+    subst (λ (o : Output). SendsFor roster peer (effect_of peer.part c o.reply) o) (sym not_made.output_is)
+    (subst (λ (e : Effect). SendsFor roster peer e (silent (Refused not_made.code)))
     (sym (refused_nothing peer.part c not_made.code)) (silent_sends (Refused not_made.code)))
-made_sends new config peer c w change output makes (inl made) =
-    subst (λ (r : Reply). SendsFor config peer (effect_of peer.part c r) output) (sym made.reply)
-    (subst (λ (e : Effect). SendsFor config peer e output) (sym makes.enters) made.sends)
+made_sends new roster peer c w change output makes (inl made) =
+    subst (λ (r : Reply). SendsFor roster peer (effect_of peer.part c r) output) (sym made.reply)
+    (subst (λ (e : Effect). SendsFor roster peer e output) (sym makes.enters) made.sends)
 
 -- what is refused sends nothing
-pub refused_sends : (config : Config) (peer : Peer) (c : Call) (code : Code)
-    → SendsFor config peer (effect_of peer.part c (Refused code)) (silent (Refused code))
-refused_sends config peer c code =
-    subst (λ (e : Effect). SendsFor config peer e (silent (Refused code))) (sym (refused_nothing peer.part c code))
+pub refused_sends : (roster : Roster) (peer : Peer) (c : Call) (code : Code)
+    → SendsFor roster peer (effect_of peer.part c (Refused code)) (silent (Refused code))
+refused_sends roster peer c code =
+    subst (λ (e : Effect). SendsFor roster peer e (silent (Refused code))) (sym (refused_nothing peer.part c code))
     (silent_sends (Refused code))
 
 -- a tick
 
 -- a moment that is neither before the peer's nor too late
-good_moment : (kept : PeerKept) (config : Config) (peer : Peer) → StandsFor kept config peer → (now : ℕ)
+good_moment : (kept : PeerKept) (roster : Roster) (peer : Peer) → StandsFor kept roster peer → (now : ℕ)
     → kept.moment ≤ now → now < 2 ^ 63 → tick_refusal peer.part now ≡ None
-good_moment kept config peer s now on early =
+good_moment kept roster peer s now on early =
     let moment = s.moment in
     ap (λ (b : Bool). if b then Some BadParameter else None)
     (neither (nat_lt now peer.part.dds.moment) (nat_le (2 ^ 63) now) (grind (arith, nat_tests))
@@ -386,25 +385,25 @@ good_moment kept config peer s now on early =
     neither true b h k = absurd cc
 
 -- the names stay, where those of writers and of readers do
-same_peer : (kept : PeerKept) (config : Config) (number : ℕ) (writers : List WriterKept) (readers : List ReaderKept)
+same_peer : (kept : PeerKept) (roster : Roster) (number : ℕ) (writers : List WriterKept) (readers : List ReaderKept)
     → map writer_identity writers ≡ map writer_identity kept.writers
     → map reader_identity readers ≡ map reader_identity kept.readers
-    → IsPeerOf config number (identity_of kept)
-    → IsPeerOf config number
+    → IsPeerOf roster number (identity_of kept)
+    → IsPeerOf roster number
     (record { prefix = kept.prefix; writers = map writer_identity writers; readers = map reader_identity readers })
-same_peer kept config number writers readers ws rs h =
-    subst (λ (is : List ReaderIdentity). IsPeerOf config number
+same_peer kept roster number writers readers ws rs h =
+    subst (λ (is : List ReaderIdentity). IsPeerOf roster number
     (record { prefix = kept.prefix; writers = map writer_identity writers; readers = is })) (sym rs)
-    (subst (λ (is : List WriterIdentity). IsPeerOf config number
+    (subst (λ (is : List WriterIdentity). IsPeerOf roster number
     (record { prefix = kept.prefix; writers = is; readers = map reader_identity kept.readers })) (sym ws) h)
 
-pub ticks : (kept : PeerKept) (writers : List WriterKept) (readers : List ReaderKept) (config : Config) (peer : Peer)
-    → StandsFor kept config peer → (now : ℕ) → kept.moment ≤ now → now < 2 ^ 63 → AllTick kept.writers now writers
+pub ticks : (kept : PeerKept) (writers : List WriterKept) (readers : List ReaderKept) (roster : Roster) (peer : Peer)
+    → StandsFor kept roster peer → (now : ℕ) → kept.moment ≤ now → now < 2 ^ 63 → AllTick kept.writers now writers
     → AllExpire kept.readers now readers → (output : Output) → output.reply ≡ Done
     → BeatsOfAll kept.prefix kept.writers output.packets output.unsent
-    → Follows (record kept { moment = now; writers = writers; readers = readers }) config peer (event.Tick now) output
-ticks kept writers readers config peer s now on early all expired output done beats =
-    let accepted : tick_refusal peer.part now ≡ None = good_moment kept config peer s now on early in
+    → Follows (record kept { moment = now; writers = writers; readers = readers }) roster peer (event.Tick now) output
+ticks kept writers readers roster peer s now on early all expired output done beats =
+    let accepted : tick_refusal peer.part now ≡ None = good_moment kept roster peer s now on early in
     let expire =
     readers_expired now kept.readers readers peer.part.rtps.readers peer.part.dds.readers peer.known expired s.readers
     in
@@ -419,11 +418,11 @@ ticks kept writers readers config peer s now on early all expired output done be
               (accepted, refl),
           refl,
         );
-        sent = due_true config peer kept now output.packets output.unsent s accepted beats;
+        sent = due_true roster peer kept now output.packets output.unsent s accepted beats;
       },
       record {
         is_peer =
-            same_peer kept config peer.number writers readers (same_names now kept.writers writers all)
+            same_peer kept roster peer.number writers readers (same_names now kept.writers writers all)
             (expired_names now kept.readers readers expired) s.is_peer;
         moment = refl;
         early = early;
@@ -438,12 +437,12 @@ ticks kept writers readers config peer s now on early all expired output done be
     )
 
 -- one whose deaths can't be counted
-pub tick_past_counting : (kept : PeerKept) (code : Code) (config : Config) (peer : Peer)
-    → StandsFor kept config peer → (now : ℕ) → kept.moment ≤ now → now < 2 ^ 63
+pub tick_past_counting : (kept : PeerKept) (code : Code) (roster : Roster) (peer : Peer)
+    → StandsFor kept roster peer → (now : ℕ) → kept.moment ≤ now → now < 2 ^ 63
     → (code ≡ Memory) × HasPastCounting kept.readers now
-    → Follows kept config peer (event.Tick now) (silent (Refused code))
-tick_past_counting kept code config peer s now on early past =
-    let accepted : tick_refusal peer.part now ≡ None = good_moment kept config peer s now on early in
+    → Follows kept roster peer (event.Tick now) (silent (Refused code))
+tick_past_counting kept code roster peer s now on early past =
+    let accepted : tick_refusal peer.part now ≡ None = good_moment kept roster peer s now on early in
     let d = past.1 in
     let within = get-within kept.readers d.index d.reader d.at in
     let count = s.readers.count in
@@ -462,9 +461,9 @@ tick_past_counting kept code config peer s now on early past =
       s,
     )
 
-pub refused_tick : (kept : PeerKept) (config : Config) (peer : Peer) → StandsFor kept config peer → (now : ℕ)
-    → (now < kept.moment) ⊎ (2 ^ 63 ≤ now) → Follows kept config peer (event.Tick now) (silent (Refused BadParameter))
-refused_tick kept config peer s now bad =
+pub refused_tick : (kept : PeerKept) (roster : Roster) (peer : Peer) → StandsFor kept roster peer → (now : ℕ)
+    → (now < kept.moment) ⊎ (2 ^ 63 ≤ now) → Follows kept roster peer (event.Tick now) (silent (Refused BadParameter))
+refused_tick kept roster peer s now bad =
     let moment = s.moment in
     let is_bad : (nat_lt now peer.part.dds.moment || nat_le (2 ^ 63) now) ≡ true =
     ⊎_elim (λ back. first (nat_lt now peer.part.dds.moment) (nat_le (2 ^ 63) now) (grind (arith, nat_tests)))
@@ -500,114 +499,115 @@ pub known_end : {X : Type 0} (ends : List X) (number i count : ℕ) → number �
 known_end ends number i count is lt same =
     subst (λ (n : ℕ). has_element ends n ≡ true) (number_is number i is) (there_is ends i (omega (arith, lt, same)))
 
-known_writer : (kept : PeerKept) (config : Config) (peer : Peer) → StandsFor kept config peer → (writer i : ℕ)
+known_writer : (kept : PeerKept) (roster : Roster) (peer : Peer) → StandsFor kept roster peer → (writer i : ℕ)
     → writer ≡ i + 1 → i < length kept.writers → has_element peer.part.rtps.writers writer ≡ true
-known_writer kept config peer s writer i is lt =
+known_writer kept roster peer s writer i is lt =
     known_end peer.part.rtps.writers writer i (length kept.writers) is lt s.writers.count
 
-pub register_at : (kept : PeerKept) (writer i : ℕ) (k k' : WriterKept) (key : Key) (config : Config) (peer : Peer)
-    → StandsFor kept config peer → writer ≡ i + 1 → slice_get kept.writers i ≡ Some k → i < length kept.writers
+pub register_at : (kept : PeerKept) (writer i : ℕ) (k k' : WriterKept) (key : Key) (roster : Roster) (peer : Peer)
+    → StandsFor kept roster peer → writer ≡ i + 1 → slice_get kept.writers i ≡ Some k → i < length kept.writers
     → Enters k (Registered key) k'
-    → Follows (with_writer kept i k') config peer (event.Call (call.Register writer key)) (silent Done)
-register_at kept writer i k k' key config peer s is at lt enters =
-    subst (λ (n : ℕ). Follows (with_writer kept i k') config peer (event.Call (call.Register n key)) (silent Done))
-    (number_is writer i is) (registers kept i k k' key config peer s at lt enters)
+    → Follows (with_writer kept i k') roster peer (event.Call (call.Register writer key)) (silent Done)
+register_at kept writer i k k' key roster peer s is at lt enters =
+    subst (λ (n : ℕ). Follows (with_writer kept i k') roster peer (event.Call (call.Register n key)) (silent Done))
+    (number_is writer i is) (registers kept i k k' key roster peer s at lt enters)
 
 -- one that finds no memory, where the instance is not registered yet
 pub unregistrable_at : (kept : PeerKept) (writer i : ℕ) (k k' : WriterKept) (key : Key) (code : Code)
-    (config : Config) (peer : Peer) → StandsFor kept config peer → writer ≡ i + 1 → slice_get kept.writers i ≡ Some k
+    (roster : Roster) (peer : Peer) → StandsFor kept roster peer → writer ≡ i + 1 → slice_get kept.writers i ≡ Some k
     → i < length kept.writers → code ≡ Memory
     → ((w : Writer) (answered : Endpoint → Contact) → WriterStands k w answered
     → is_key_registered key w.written ≡ false) → k' ≡ k
-    → Follows (with_writer kept i k') config peer (event.Call (call.Register writer key)) (silent (Refused code))
-unregistrable_at kept writer i k k' key code config peer s is at lt memory none same =
+    → Follows (with_writer kept i k') roster peer (event.Call (call.Register writer key)) (silent (Refused code))
+unregistrable_at kept writer i k k' key code roster peer s is at lt memory none same =
     let answered = peer.known.answered (suc i) in
     let unknown : is_key_registered key (own_writer peer.part writer).written ≡ false =
     subst (λ (n : ℕ). is_key_registered key (own_writer peer.part n).written ≡ false) (number_is writer i is)
     (none (own_writer peer.part (suc i)) answered (s.writers.each i k at)) in
-    subst (λ (x : PeerKept). Follows x config peer (event.Call (call.Register writer key)) (silent (Refused code)))
+    subst (λ (x : PeerKept). Follows x roster peer (event.Call (call.Register writer key)) (silent (Refused code)))
     (sym (unchanged_with kept i k k' at same))
-    (refused_call kept config peer s (call.Register writer key) code
-    (register_memory peer.part writer key code (known_writer kept config peer s writer i is lt) memory unknown))
+    (refused_call kept roster peer s (call.Register writer key) code
+    (register_memory peer.part writer key code (known_writer kept roster peer s writer i is lt) memory unknown))
 
 -- so it is of the writer of a number
-pub looks_at : (kept : PeerKept) (writer i : ℕ) (k k' : WriterKept) (status : LivelinessLostStatus) (config : Config)
-    (peer : Peer) → StandsFor kept config peer → writer ≡ i + 1 → slice_get kept.writers i ≡ Some k
+pub looks_at : (kept : PeerKept) (writer i : ℕ) (k k' : WriterKept) (status : LivelinessLostStatus) (roster : Roster)
+    (peer : Peer) → StandsFor kept roster peer → writer ≡ i + 1 → slice_get kept.writers i ≡ Some k
     → i < length kept.writers
     → ((w : Writer) (answered : Endpoint → Contact) → WriterStands k w answered
     → status ≡ liveliness_lost_status w.lease w.written) → Enters k LookedAt k'
-    → Follows (with_writer kept i k') config peer (event.Call (call.GetLivelinessLost writer))
+    → Follows (with_writer kept i k') roster peer (event.Call (call.GetLivelinessLost writer))
     (silent (LivelinessLost status))
-looks_at kept writer i k k' status config peer s is at lt tells enters =
-    subst (λ (n : ℕ). Follows (with_writer kept i k') config peer (event.Call (call.GetLivelinessLost n))
+looks_at kept writer i k k' status roster peer s is at lt tells enters =
+    subst (λ (n : ℕ). Follows (with_writer kept i k') roster peer (event.Call (call.GetLivelinessLost n))
     (silent (LivelinessLost status))) (number_is writer i is)
-    (looks kept i k k' status config peer s at lt tells enters)
+    (looks kept i k k' status roster peer s at lt tells enters)
 
 -- an instance that the writer of this index has not registered
-pub unregistered_at : (kept : PeerKept) (writer i : ℕ) (k : WriterKept) (key : Key) (config : Config) (peer : Peer)
-    → StandsFor kept config peer → writer ≡ i + 1 → i < length kept.writers → slice_get kept.writers i ≡ Some k
+pub unregistered_at : (kept : PeerKept) (writer i : ℕ) (k : WriterKept) (key : Key) (roster : Roster) (peer : Peer)
+    → StandsFor kept roster peer → writer ≡ i + 1 → i < length kept.writers → slice_get kept.writers i ≡ Some k
     → ((w : Writer) (answered : Endpoint → Contact) → WriterStands k w answered
     → is_key_registered key w.written ≡ false)
-    → Follows kept config peer (event.Call (call.Unregister writer key)) (silent (Refused PreconditionNotMet))
-unregistered_at kept writer i k key config peer s is lt at none =
+    → Follows kept roster peer (event.Call (call.Unregister writer key)) (silent (Refused PreconditionNotMet))
+unregistered_at kept writer i k key roster peer s is lt at none =
     let answered = peer.known.answered (suc i) in
     let unknown : is_key_registered key (own_writer peer.part writer).written ≡ false =
     subst (λ (n : ℕ). is_key_registered key (own_writer peer.part n).written ≡ false) (number_is writer i is)
     (none (own_writer peer.part (suc i)) answered (s.writers.each i k at)) in
-    refused_call kept config peer s (call.Unregister writer key) PreconditionNotMet
-    (unregistered peer.part writer key (known_writer kept config peer s writer i is lt) unknown)
+    refused_call kept roster peer s (call.Unregister writer key) PreconditionNotMet
+    (unregistered peer.part writer key (known_writer kept roster peer s writer i is lt) unknown)
 
 -- how long the values of the writer of this index may be
-most_at : (kept : PeerKept) (writer i : ℕ) (k : WriterKept) (config : Config) (peer : Peer)
-    → StandsFor kept config peer → writer ≡ i + 1 → slice_get kept.writers i ≡ Some k
+most_at : (kept : PeerKept) (writer i : ℕ) (k : WriterKept) (roster : Roster) (peer : Peer)
+    → StandsFor kept roster peer → writer ≡ i + 1 → slice_get kept.writers i ≡ Some k
     → (own_writer peer.part writer).max_value ≡ k.max_value
-most_at kept writer i k config peer s is at =
+most_at kept writer i k roster peer s is at =
     ap (λ (n : ℕ). (own_writer peer.part n).max_value) (sym (number_is writer i is)) ∙ (s.writers.each i k at).values
 
 -- a value that is too long for it
-pub long_at : (kept : PeerKept) (writer i : ℕ) (k : WriterKept) (key : Key) (value : List ℕ) (config : Config)
-    (peer : Peer) → StandsFor kept config peer → writer ≡ i + 1 → slice_get kept.writers i ≡ Some k
+pub long_at : (kept : PeerKept) (writer i : ℕ) (k : WriterKept) (key : Key) (value : List ℕ) (roster : Roster)
+    (peer : Peer) → StandsFor kept roster peer → writer ≡ i + 1 → slice_get kept.writers i ≡ Some k
     → (k.max_value < length value) ⊎ (65000 < length value)
-    → Follows kept config peer (event.Call (call.Write writer key value)) (silent (Refused BadParameter))
-long_at kept writer i k key value config peer s is at long =
-    let most = most_at kept writer i k config peer s is at in
-    let limited = value_limited config peer.number kept s.is_peer i k at in
+    → Follows kept roster peer (event.Call (call.Write writer key value)) (silent (Refused BadParameter))
+long_at kept writer i k key value roster peer s is at long =
+    let most = most_at kept writer i k roster peer s is at in
+    let limited : k.max_value ≤ 65000 =
+    s.is_peer.limited i (writer_identity k) (map-get writer_identity kept.writers i k at) in
     let over : k.max_value < length value = ⊎_elim (λ h. h) (λ h. omega (arith, h, limited)) long in
-    refused_call kept config peer s (call.Write writer key value) BadParameter
+    refused_call kept roster peer s (call.Write writer key value) BadParameter
     (long_write peer.part writer key value (omega (arith, most, over)))
 
 -- what a call of a writer makes, where it is one of the peer's
-pub write_at : (kept : PeerKept) (writer i : ℕ) (k : WriterKept) (key : Key) (value : List ℕ) (config : Config)
-    (peer : Peer) → StandsFor kept config peer → writer ≡ i + 1 → i < length kept.writers
+pub write_at : (kept : PeerKept) (writer i : ℕ) (k : WriterKept) (key : Key) (value : List ℕ) (roster : Roster)
+    (peer : Peer) → StandsFor kept roster peer → writer ≡ i + 1 → i < length kept.writers
     → slice_get kept.writers i ≡ Some k → IsShort k.max_value value
     → MakesChange peer.part (call.Write writer key value) (i + 1)
     (change_made peer.part (i + 1) kind.Write key value)
-write_at kept writer i k key value config peer s is lt at short =
-    let most = most_at kept writer i k config peer s is at in
+write_at kept writer i k key value roster peer s is lt at short =
+    let most = most_at kept writer i k roster peer s is at in
     let within = short.0 in
     subst (λ (n : ℕ). MakesChange peer.part (call.Write writer key value) n
     (change_made peer.part n kind.Write key value)) is
-    (write_makes peer.part writer key value (known_writer kept config peer s writer i is lt)
+    (write_makes peer.part writer key value (known_writer kept roster peer s writer i is lt)
     (omega (arith, most, within)))
 
-pub dispose_at : (kept : PeerKept) (writer i : ℕ) (key : Key) (config : Config) (peer : Peer)
-    → StandsFor kept config peer → writer ≡ i + 1 → i < length kept.writers
+pub dispose_at : (kept : PeerKept) (writer i : ℕ) (key : Key) (roster : Roster) (peer : Peer)
+    → StandsFor kept roster peer → writer ≡ i + 1 → i < length kept.writers
     → MakesChange peer.part (call.Dispose writer key) (i + 1)
     (change_made peer.part (i + 1) kind.Dispose key [])
-dispose_at kept writer i key config peer s is lt =
+dispose_at kept writer i key roster peer s is lt =
     subst (λ (n : ℕ). MakesChange peer.part (call.Dispose writer key) n
     (change_made peer.part n kind.Dispose key [])) is
-    (dispose_makes peer.part writer key (known_writer kept config peer s writer i is lt))
+    (dispose_makes peer.part writer key (known_writer kept roster peer s writer i is lt))
 
-pub unregister_at : (kept : PeerKept) (writer i : ℕ) (k : WriterKept) (key : Key) (made : ChangeKind) (config : Config)
-    (peer : Peer) → StandsFor kept config peer → writer ≡ i + 1 → i < length kept.writers
+pub unregister_at : (kept : PeerKept) (writer i : ℕ) (k : WriterKept) (key : Key) (made : ChangeKind) (roster : Roster)
+    (peer : Peer) → StandsFor kept roster peer → writer ≡ i + 1 → i < length kept.writers
     → slice_get kept.writers i ≡ Some k
     → ((w : Writer) (answered : Endpoint → Contact) → WriterStands k w answered
     → is_key_registered key w.written ≡ true)
     → ((w : Writer) (answered : Endpoint → Contact) → WriterStands k w answered
     → made ≡ unregister_kind w.autodispose)
     → MakesChange peer.part (call.Unregister writer key) (i + 1) (change_made peer.part (i + 1) made key [])
-unregister_at kept writer i k key made config peer s is lt at there kind_is =
+unregister_at kept writer i k key made roster peer s is lt at there kind_is =
     let w : Writer = own_writer peer.part (suc i) in
     let answered = peer.known.answered (suc i) in
     let ws : WriterStands k w answered = s.writers.each i k at in
@@ -621,4 +621,4 @@ unregister_at kept writer i k key made config peer s is lt at there kind_is =
     (change_made peer.part n made key [])) is
     (subst (λ (x : ChangeKind). MakesChange peer.part (call.Unregister writer key) writer
     (change_made peer.part writer x key [])) kinds
-    (unregister_makes peer.part writer key (known_writer kept config peer s writer i is lt) registered))
+    (unregister_makes peer.part writer key (known_writer kept roster peer s writer i is lt) registered))

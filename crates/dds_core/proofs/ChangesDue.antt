@@ -1,7 +1,7 @@
 -- What announces a change is what is due.
 use Rattle.std.proofs.Common.{◌≡◌, ℕ, ◌+◌, ◌-◌, ◌≤◌, List, [], ◌∷◌, map, length, refl, ap, sym, ◌∙◌, subst, arith, inl, inr}
 use Rattle.dds_base.specs.declared.change.Change.{Change}
-use Rattle.dds_base.specs.declared.config.Config.{Config}
+use Rattle.dds_protocol.specs.Roster.{Roster}
 use Rattle.dds_base.specs.declared.guid.EntityId.{EntityId}
 use Rattle.dds_base.specs.declared.guid.GuidPrefix.{GuidPrefix}
 use Rattle.rtps_wire.specs.declared.data.DataContent.{DataContent}
@@ -10,7 +10,6 @@ use Rattle.rtps_wire.specs.Messages.{spelling_of}
 use Rattle.dds_protocol.specs.declared.event.Packet.{Packet}
 use Rattle.dds_machine.specs.Part.{Writer}
 use Rattle.dds_protocol.specs.DueMessages.{Due, AreSent, change_message, changes_due, writer_entity}
-use Rattle.dds_protocol.specs.Receipt.{prefix_of}
 use Rattle.dds_ends.specs.declared.matching.Destination.{Destination}
 use Rattle.dds_ends.specs.declared.sending.Sender.{Sender}
 use Rattle.dds_ends.specs.Beating.{due_to}
@@ -62,22 +61,23 @@ announced_sent sender number content (d ∷ ds) (p ∷ ps) unsent (inr g) count 
           (omega (arith, count, short)),
     )
 
--- what a writer of the configuration announces is due
-pub change_sent : (config : Config) (peer : ℕ) (prefix : GuidPrefix) (number sn : ℕ) (k : WriterKept) (w : Writer)
-    (change : Change) (packets : List Packet) (unsent : ℕ) → IsNamed config peer prefix number k w
+-- what a writer of the roster announces is due
+pub change_sent : (roster : Roster) (peer : ℕ) (prefix : GuidPrefix) (number sn : ℕ) (k : WriterKept) (w : Writer)
+    (change : Change) (packets : List Packet) (unsent : ℕ) → IsNamed roster peer prefix number k w
     → AreAnnouncements (record { prefix = prefix; entity = k.entity; moment = change.source_timestamp }) sn
     (content_of change) k.destinations packets → length packets + unsent ≡ length k.destinations
-    → AreSent (changes_due config (record { peer = peer; number = number }) w.matched sn change) packets unsent
-change_sent config peer prefix number sn k w change packets unsent is are count =
+    → AreSent (changes_due roster (record { peer = peer; number = number }) w.matched sn change) packets unsent
+change_sent roster peer prefix number sn k w change packets unsent is are count =
     let ds : List Destination = k.destinations in
     let message = λ (own : GuidPrefix) (entity : EntityId) (to : GuidPrefix). change_message own to entity sn change in
-    let own : GuidPrefix = prefix_of config peer in
-    let entity : EntityId = writer_entity config peer number in
-    let peers = sends_to config peer prefix number k w is in
-    let all : changes_due config (record { peer = peer; number = number }) w.matched sn change
+    let own : GuidPrefix = roster.prefix peer in
+    let entity : EntityId = writer_entity roster peer number in
+    let peers = sends_to roster peer prefix number k w is in
+    let all : changes_due roster (record { peer = peer; number = number }) w.matched sn change
     ≡ map (λ (d : Destination). due_to d.peer (message prefix k.entity d.prefix)) ds =
-    ap (λ (ns : List ℕ). map (λ (to : ℕ). due_to to (message own entity (prefix_of config to))) ns) peers
-    ∙ (by_number config (λ to. message own entity) ds (all_named config is.topic k.matched ds k.readers is.ends)
+    ap (λ (ns : List ℕ). map (λ (to : ℕ). due_to to (message own entity (roster.prefix to))) ns) peers
+    ∙ (by_number roster (λ to. message own entity) ds
+    (all_named roster (record { peer = peer; number = number }) k.matched ds k.readers is.ends)
     ∙ (ap (λ (p : GuidPrefix). map (λ (d : Destination). due_to d.peer (message p entity d.prefix)) ds) is.own
     ∙ ap (λ (e : EntityId). map (λ (d : Destination). due_to d.peer (message prefix e d.prefix)) ds) is.entity)) in
     subst (λ (dues : List Due). AreSent dues packets unsent) (sym all)

@@ -1,7 +1,7 @@
 -- The sums of what a datagram holds: reader after reader, and submessage after submessage, as they are read.
-use Rattle.std.proofs.Common.{◌≡◌, ℕ, suc, ◌+◌, ◌-◌, ◌<◌, Bool, ◌&&◌, List, [], ◌∷◌, ◌++◌, length, take, get_or, slice_get, Option, Some, subst, ap, sym, ◌∙◌, refl, inl, inr, ⊎_elim, arith}
+use Rattle.std.proofs.Common.{◌≡◌, ℕ, suc, ◌+◌, ◌-◌, ◌<◌, List, [], ◌∷◌, ◌++◌, length, take, get_or, slice_get, Option, Some, subst, ap, sym, ◌∙◌, refl, inl, inr, ⊎_elim, arith}
 use Rattle.std.proofs.lemmas.List.{take_more}
-use Rattle.dds_base.specs.declared.config.Config.{Config}
+use Rattle.dds_protocol.specs.Roster.{Roster}
 use Rattle.dds_base.specs.declared.guid.EntityId.{EntityId}
 use Rattle.dds_base.specs.declared.guid.GuidPrefix.{GuidPrefix}
 use Rattle.dds_base.specs.Kept.{numbers_from}
@@ -16,20 +16,17 @@ use Rattle.rtps_wire.proofs.MessageLaws.{reads_on, message_read}
 use Rattle.dds_base.specs.declared.endpoint.Endpoint.{Endpoint}
 use Rattle.dds_protocol.specs.Claims.{Receiver, receiver_of, after_submessage}
 use Rattle.dds_protocol.specs.Peer.{Peer}
-use Rattle.dds_protocol.proofs.Finding.{finds_writer}
 use Rattle.dds_core.specs.declared.observing.Observed.{Observed}
 use Rattle.dds_ends.specs.Kept.{ReaderKept}
 use Rattle.dds_core.specs.Kept.{PeerKept}
 use Rattle.dds_core.specs.Observing.{Sums, Counts, Observes, OldAt, OldData, OldHeartbeats, ToNobody, one_where}
-use Rattle.dds_ends.specs.Observing.{is_counted, is_old}
 use Rattle.dds_ends.specs.ObservingKept.{IsOldAtRow}
 use Rattle.dds_core.specs.ObservingKept.{CountsOld, ObservesBody, ObservesAll, ObservesFrame, ObservesSubmessage, OldToReaders, SumsBody, ToNobodyOf}
 use Rattle.dds_ends.specs.Readiness.{IsNamedFor, NamedBy, writer_guid}
 use Rattle.dds_core.specs.Standing.{StandsFor}
 use Rattle.dds_ends.proofs.Named.{names_one}
-use Rattle.dds_core.proofs.KnownWriters.{has_none, row_known, unknown_there}
+use Rattle.dds_core.proofs.KnownWriters.{row_known, unknown_to}
 use Rattle.dds_core.proofs.Named.{first_row, is_to}
-use Rattle.dds_core.proofs.Taking.{prefix_is}
 
 -- ---- the readers of a peer
 
@@ -49,63 +46,53 @@ sums_more says xs i x d n m lt is sum one =
     (sums_last says (take i xs) (get_or xs i d) n m sum (subst (λ y. says y m) is one))
 
 -- to a reader of the peer the submessage is old, as what it keeps of its writer says
-old_at : (config : Config) (peer : Peer) (kept : PeerKept) (s : StandsFor kept config peer) (i : ℕ) (k : ReaderKept)
+old_at : (roster : Roster) (peer : Peer) (kept : PeerKept) (s : StandsFor kept roster peer) (i : ℕ) (k : ReaderKept)
     → slice_get kept.readers i ≡ Some k → (of : Option Endpoint) (at : Receiver) (submessage : Submessage)
     (reader_id writer_id : EntityId)
     → NamedBy submessage reader_id writer_id → (n : ℕ) → CountsOld kept.prefix of at submessage k n
-    → OldAt config kept.prefix peer of at reader_id writer_id submessage (suc i) n
-old_at config peer kept s i k at_k of at submessage reader_id writer_id by n h =
+    → OldAt roster kept.prefix peer of at reader_id writer_id submessage (suc i) n
+old_at roster peer kept s i k at_k of at submessage reader_id writer_id by n h =
     ⊎_elim
     (λ (f : IsOldAtRow kept.prefix of at submessage k h.0).
     let one = names_one submessage f.named.reader_id f.named.writer_id reader_id writer_id f.named.by by in
     let here : IsNamedFor kept.prefix k at reader_id writer_id f.row =
     subst (λ (w : EntityId). IsNamedFor kept.prefix k at reader_id w f.row) one.1
     (subst (λ (r : EntityId). IsNamedFor kept.prefix k at r f.named.writer_id f.row) one.0 f.named.named) in
-    let first = first_row config peer kept s i k at_k (writer_guid at writer_id) f.row here.first in
+    let first = first_row roster peer kept s i k at_k (writer_guid at writer_id) f.row here.first in
     inl (
       here.first.name.writer,
-      is_to config peer kept s i k at_k at reader_id writer_id f.row here,
-      h.2 ∙ (ap one_where (f.is here.first.name here.first.at (peer.known.tracked here.first.name.writer (suc i))
-          ((s.readers.each i k at_k).knows here.first.name.writer f.row first))
-          ∙ sym (ap (λ (b : Bool). one_where (b && is_counted of here.first.name.writer
-          && is_old (peer.known.tracked here.first.name.writer (suc i)) submessage))
-          (row_known config peer kept s i k at_k f.row here.first.name here.first.at))),
+      is_to roster peer kept s i k at_k at reader_id writer_id f.row here,
+      row_known roster peer kept s i k at_k f.row here.first.name here.first.at,
+      h.2 ∙ ap one_where (f.is here.first.name here.first.at (peer.known.tracked here.first.name.writer (suc i))
+          ((s.readers.each i k at_k).knows here.first.name.writer f.row first)),
     ))
-    (λ u.
-    ⊎_elim
-    (λ w. inl (
-      w.0,
-      w.1,
-      h.2 ∙ (ap one_where u.1
-          ∙ sym (ap (λ (b : Bool). one_where (b && is_counted of w.0
-          && is_old (peer.known.tracked w.0 (suc i)) submessage))
-          (unknown_there config peer kept s i k at_k w.0
-          (has_none config peer kept s i k at_k at reader_id writer_id w.0 w.1 (u.0 reader_id writer_id by))))),
-    )) (λ n. inr (n, h.2 ∙ ap one_where u.1))
-    (finds_writer config kept.prefix at reader_id writer_id (record { peer = peer.number; number = suc i }))) h.1
+    (λ u. inr (
+      λ w to. unknown_to roster peer kept s i k at_k at reader_id writer_id w to (u.0 reader_id writer_id by),
+      h.2 ∙ ap one_where u.1,
+    )) h.1
 
 -- from the readers that a peer keeps to their numbers
-of_readers : (config : Config) (peer : Peer) (kept : PeerKept) (s : StandsFor kept config peer) (of : Option Endpoint)
+of_readers : (roster : Roster) (peer : Peer) (kept : PeerKept) (s : StandsFor kept roster peer) (of : Option Endpoint)
     (at : Receiver) (submessage : Submessage) (reader_id writer_id : EntityId) → NamedBy submessage reader_id writer_id
     → (i : ℕ) (ks : List ReaderKept)
     → ((j : ℕ) (k : ReaderKept) → slice_get ks j ≡ Some k → slice_get kept.readers (i + j) ≡ Some k) → (n : ℕ)
     → Sums (CountsOld kept.prefix of at submessage) ks n
-    → Sums (OldAt config kept.prefix peer of at reader_id writer_id submessage) (numbers_from (1 + i) (length ks)) n
-of_readers config peer kept s of at submessage reader_id writer_id by i [] there n h = h
-of_readers config peer kept s of at submessage reader_id writer_id by i (k ∷ ks) there n h =
+    → Sums (OldAt roster kept.prefix peer of at reader_id writer_id submessage) (numbers_from (1 + i) (length ks)) n
+of_readers roster peer kept s of at submessage reader_id writer_id by i [] there n h = h
+of_readers roster peer kept s of at submessage reader_id writer_id by i (k ∷ ks) there n h =
     let here : i + 0 ≡ i = omega arith in
     let number : suc i ≡ 1 + i = omega arith in
     let next : 1 + (i + 1) ≡ 1 + i + 1 = omega arith in (
       h.0,
       h.1,
       h.2,
-      subst (λ (m : ℕ). OldAt config kept.prefix peer of at reader_id writer_id submessage m h.0) number
-          (old_at config peer kept s i k
+      subst (λ (m : ℕ). OldAt roster kept.prefix peer of at reader_id writer_id submessage m h.0) number
+          (old_at roster peer kept s i k
           (subst (λ (m : ℕ). slice_get kept.readers m ≡ Some k) here (there 0 k refl)) of at submessage reader_id writer_id
           by h.0 h.3),
-      subst (λ (m : ℕ). Sums (OldAt config kept.prefix peer of at reader_id writer_id submessage)
+      subst (λ (m : ℕ). Sums (OldAt roster kept.prefix peer of at reader_id writer_id submessage)
           (numbers_from m (length ks)) h.1) next
-          (of_readers config peer kept s of at submessage reader_id writer_id by (i + 1) ks
+          (of_readers roster peer kept s of at submessage reader_id writer_id by (i + 1) ks
           (λ j x at_x. subst (λ (m : ℕ). slice_get kept.readers m ≡ Some x) (later j) (there (suc j) x at_x)) h.1 h.4),
     )
   where
@@ -115,10 +102,10 @@ of_readers config peer kept s of at submessage reader_id writer_id by i (k ∷ k
 -- what the readers that a peer keeps say is so of each peer that they stand for
 pub old_to_readers : (kept : PeerKept) (of : Option Endpoint) (at : Receiver) (submessage : Submessage) (n : ℕ)
     → Sums (CountsOld kept.prefix of at submessage) kept.readers n → OldToReaders kept of at submessage n
-old_to_readers kept of at submessage n sum config peer s reader_id writer_id by =
-    subst (λ (m : ℕ). Sums (OldAt config kept.prefix peer of at reader_id writer_id submessage) (numbers_from 1 m) n)
+old_to_readers kept of at submessage n sum roster peer s reader_id writer_id by =
+    subst (λ (m : ℕ). Sums (OldAt roster kept.prefix peer of at reader_id writer_id submessage) (numbers_from 1 m) n)
     (sym s.readers.rows)
-    (of_readers config peer kept s of at submessage reader_id writer_id by 0 kept.readers
+    (of_readers roster peer kept s of at submessage reader_id writer_id by 0 kept.readers
     (λ j k there. subst (λ (m : ℕ). slice_get kept.readers m ≡ Some k) (whole j) there) n sum)
   where
     whole : (j : ℕ) → j ≡ 0 + j
@@ -162,17 +149,17 @@ counted_all own says source body left at n so ends =
     (so 0 (record { submessages = []; left = left; is_read = (ends, refl); sums = refl }))
 
 -- the same of each count
-pub record ObservedTo (config : Config) (own source : GuidPrefix) (peer : Peer) (of : Option Endpoint)
+pub record ObservedTo (roster : Roster) (own source : GuidPrefix) (peer : Peer) (of : Option Endpoint)
     (body left : List ℕ) (at : Receiver) (seen : Observed) : Type 0 where
-  pub old_data : CountedTo own (OldData config own peer of) source body left at seen.old_data
-  pub old_heartbeats : CountedTo own (OldHeartbeats config own peer of) source body left at seen.old_heartbeats
-  pub to_nobody : CountedTo own (ToNobody config own peer) source body left at seen.to_nobody
+  pub old_data : CountedTo own (OldData roster own peer of) source body left at seen.old_data
+  pub old_heartbeats : CountedTo own (OldHeartbeats roster own peer of) source body left at seen.old_heartbeats
+  pub to_nobody : CountedTo own (ToNobody roster own peer) source body left at seen.to_nobody
 
 -- the same, for each peer that the values stand for
 abbrev pub ObservesTo : PeerKept → Option Endpoint → GuidPrefix → List ℕ → List ℕ → Receiver → Observed → Type 0
 ObservesTo kept of source body left at seen =
-    (config : Config) (peer : Peer) → StandsFor kept config peer
-    → ObservedTo config kept.prefix source peer of body left at seen
+    (roster : Roster) (peer : Peer) → StandsFor kept roster peer
+    → ObservedTo roster kept.prefix source peer of body left at seen
 
 -- two observations together
 pub record IsBoth (a b both : Observed) : Type 0 where
@@ -185,44 +172,44 @@ nothing = record { old_data = 0; old_heartbeats = 0; to_nobody = 0 }
 
 pub observed_none : (kept : PeerKept) (of : Option Endpoint) (source : GuidPrefix) (body : List ℕ) (at : Receiver)
     → at ≡ receiver_of source → ObservesTo kept of source body body at nothing
-observed_none kept of source body at begins config peer s = record {
-  old_data = counted_none kept.prefix (OldData config kept.prefix peer of) source body at begins;
-  old_heartbeats = counted_none kept.prefix (OldHeartbeats config kept.prefix peer of) source body at begins;
-  to_nobody = counted_none kept.prefix (ToNobody config kept.prefix peer) source body at begins;
+observed_none kept of source body at begins roster peer s = record {
+  old_data = counted_none kept.prefix (OldData roster kept.prefix peer of) source body at begins;
+  old_heartbeats = counted_none kept.prefix (OldHeartbeats roster kept.prefix peer of) source body at begins;
+  to_nobody = counted_none kept.prefix (ToNobody roster kept.prefix peer) source body at begins;
 }
 
 pub observed_more : (kept : PeerKept) (of : Option Endpoint) (source : GuidPrefix) (body left rest : List ℕ) (at now : Receiver)
     (id flags : ℕ) (frame : List ℕ) (seen more both : Observed) → ObservesTo kept of source body left at seen
     → (f : ObservesFrame kept of at id flags frame more now) → ReadsFirst left f.submessage rest → IsBoth seen more both
     → ObservesTo kept of source body rest now both
-observed_more kept of source body left rest at now id flags frame seen more both so f first is config peer s =
-    subst (λ (r : Receiver). ObservedTo config kept.prefix source peer of body rest r both) (sym f.leaves) (record {
+observed_more kept of source body left rest at now id flags frame seen more both so f first is roster peer s =
+    subst (λ (r : Receiver). ObservedTo roster kept.prefix source peer of body rest r both) (sym f.leaves) (record {
       old_data =
-          counted_more kept.prefix (OldData config kept.prefix peer of) source body left rest at f.submessage
-          seen.old_data more.old_data both.old_data (so config peer s).old_data first
-          (f.observes config peer s).old_data is.old_data;
+          counted_more kept.prefix (OldData roster kept.prefix peer of) source body left rest at f.submessage
+          seen.old_data more.old_data both.old_data (so roster peer s).old_data first
+          (f.observes roster peer s).old_data is.old_data;
       old_heartbeats =
-          counted_more kept.prefix (OldHeartbeats config kept.prefix peer of) source body left rest at f.submessage
-          seen.old_heartbeats more.old_heartbeats both.old_heartbeats (so config peer s).old_heartbeats first
-          (f.observes config peer s).old_heartbeats is.old_heartbeats;
+          counted_more kept.prefix (OldHeartbeats roster kept.prefix peer of) source body left rest at f.submessage
+          seen.old_heartbeats more.old_heartbeats both.old_heartbeats (so roster peer s).old_heartbeats first
+          (f.observes roster peer s).old_heartbeats is.old_heartbeats;
       to_nobody =
-          counted_more kept.prefix (ToNobody config kept.prefix peer) source body left rest at f.submessage
-          seen.to_nobody more.to_nobody both.to_nobody (so config peer s).to_nobody first
-          (f.observes config peer s).to_nobody is.to_nobody;
+          counted_more kept.prefix (ToNobody roster kept.prefix peer) source body left rest at f.submessage
+          seen.to_nobody more.to_nobody both.to_nobody (so roster peer s).to_nobody first
+          (f.observes roster peer s).to_nobody is.to_nobody;
     })
 
 pub observed_all : (kept : PeerKept) (of : Option Endpoint) (source : GuidPrefix) (body left : List ℕ) (at : Receiver) (seen : Observed)
     → ObservesTo kept of source body left at seen → IsEnd left → ObservesBody kept of source body seen
-observed_all kept of source body left at seen so ends config peer s = record {
+observed_all kept of source body left at seen so ends roster peer s = record {
   old_data =
-      counted_all kept.prefix (OldData config kept.prefix peer of) source body left at seen.old_data
-      (so config peer s).old_data ends;
+      counted_all kept.prefix (OldData roster kept.prefix peer of) source body left at seen.old_data
+      (so roster peer s).old_data ends;
   old_heartbeats =
-      counted_all kept.prefix (OldHeartbeats config kept.prefix peer of) source body left at seen.old_heartbeats
-      (so config peer s).old_heartbeats ends;
+      counted_all kept.prefix (OldHeartbeats roster kept.prefix peer of) source body left at seen.old_heartbeats
+      (so roster peer s).old_heartbeats ends;
   to_nobody =
-      counted_all kept.prefix (ToNobody config kept.prefix peer) source body left at seen.to_nobody
-      (so config peer s).to_nobody ends;
+      counted_all kept.prefix (ToNobody roster kept.prefix peer) source body left at seen.to_nobody
+      (so roster peer s).to_nobody ends;
 }
 
 -- ---- one submessage
@@ -230,30 +217,30 @@ observed_all kept of source body left at seen so ends config peer s = record {
 pub observed_data : (kept : PeerKept) (of : Option Endpoint) (at : Receiver) (s : Submessage) (d : DataBody) (n m : ℕ) → s ≡ Data d
     → OldToReaders kept of at s n → ToNobodyOf kept at s m
     → ObservesSubmessage kept of at s (record { old_data = n; old_heartbeats = 0; to_nobody = m })
-observed_data kept of at (Data x) d n m is old nobody config peer stands = record {
-  old_data = old config peer stands x.reader_id x.writer_id (refl, refl);
+observed_data kept of at (Data x) d n m is old nobody roster peer stands = record {
+  old_data = old roster peer stands x.reader_id x.writer_id (refl, refl);
   old_heartbeats = refl;
-  to_nobody = nobody config peer stands;
+  to_nobody = nobody roster peer stands;
 }
-observed_data kept of at s d n m is old nobody config peer stands = absurd cc
+observed_data kept of at s d n m is old nobody roster peer stands = absurd cc
 
 pub observed_heartbeat : (kept : PeerKept) (of : Option Endpoint) (at : Receiver) (s : Submessage) (h : HeartbeatBody) (n m : ℕ)
     → s ≡ Heartbeat h → OldToReaders kept of at s n → ToNobodyOf kept at s m
     → ObservesSubmessage kept of at s (record { old_data = 0; old_heartbeats = n; to_nobody = m })
-observed_heartbeat kept of at (Heartbeat x) h n m is old nobody config peer stands = record {
+observed_heartbeat kept of at (Heartbeat x) h n m is old nobody roster peer stands = record {
   old_data = refl;
-  old_heartbeats = old config peer stands x.reader_id x.writer_id (refl, refl);
-  to_nobody = nobody config peer stands;
+  old_heartbeats = old roster peer stands x.reader_id x.writer_id (refl, refl);
+  to_nobody = nobody roster peer stands;
 }
-observed_heartbeat kept of at s h n m is old nobody config peer stands = absurd cc
+observed_heartbeat kept of at s h n m is old nobody roster peer stands = absurd cc
 
 pub observed_other : (kept : PeerKept) (of : Option Endpoint) (at : Receiver) (s : Submessage) (m : ℕ) → ((d : DataBody) → s ≡ Data d → ⊥)
     → ((h : HeartbeatBody) → s ≡ Heartbeat h → ⊥) → ToNobodyOf kept at s m
     → ObservesSubmessage kept of at s (record { old_data = 0; old_heartbeats = 0; to_nobody = m })
-observed_other kept of at (Data x) m no_data no_heartbeat nobody config peer stands = absurd (no_data x refl)
-observed_other kept of at (Heartbeat x) m no_data no_heartbeat nobody config peer stands = absurd (no_heartbeat x refl)
-observed_other kept of at s m no_data no_heartbeat nobody config peer stands =
-    record { old_data = refl; old_heartbeats = refl; to_nobody = nobody config peer stands }
+observed_other kept of at (Data x) m no_data no_heartbeat nobody roster peer stands = absurd (no_data x refl)
+observed_other kept of at (Heartbeat x) m no_data no_heartbeat nobody roster peer stands = absurd (no_heartbeat x refl)
+observed_other kept of at s m no_data no_heartbeat nobody roster peer stands =
+    record { old_data = refl; old_heartbeats = refl; to_nobody = nobody roster peer stands }
 
 -- ---- the whole of a datagram
 
@@ -268,29 +255,29 @@ in_message own says bytes source body n header b = inl (record {
 })
 
 pub observes_message : (kept : PeerKept) (of : Option Endpoint) (bytes : List ℕ) (source : GuidPrefix) (body : List ℕ) (seen : Observed)
-    → HasHeader bytes source body → ObservesBody kept of source body seen → (config : Config) (peer : Peer)
-    → StandsFor kept config peer → Observes config peer of bytes seen
-observes_message kept of bytes source body seen header h config peer s =
-    let own = sym (prefix_is kept config peer s) in
-    let all : ObservesAll config kept.prefix source peer of body seen = h config peer s in
+    → HasHeader bytes source body → ObservesBody kept of source body seen → (roster : Roster) (peer : Peer)
+    → StandsFor kept roster peer → Observes roster peer of bytes seen
+observes_message kept of bytes source body seen header h roster peer s =
+    let own = sym s.is_peer.prefix in
+    let all : ObservesAll roster kept.prefix source peer of body seen = h roster peer s in
     record {
       old_data =
-          subst (λ (p : GuidPrefix). Counts p (OldData config p peer of) bytes seen.old_data) own
-          (in_message kept.prefix (OldData config kept.prefix peer of) bytes source body seen.old_data header all.old_data);
+          subst (λ (p : GuidPrefix). Counts p (OldData roster p peer of) bytes seen.old_data) own
+          (in_message kept.prefix (OldData roster kept.prefix peer of) bytes source body seen.old_data header all.old_data);
       old_heartbeats =
-          subst (λ (p : GuidPrefix). Counts p (OldHeartbeats config p peer of) bytes seen.old_heartbeats) own
-          (in_message kept.prefix (OldHeartbeats config kept.prefix peer of) bytes source body seen.old_heartbeats header
+          subst (λ (p : GuidPrefix). Counts p (OldHeartbeats roster p peer of) bytes seen.old_heartbeats) own
+          (in_message kept.prefix (OldHeartbeats roster kept.prefix peer of) bytes source body seen.old_heartbeats header
           all.old_heartbeats);
       to_nobody =
-          subst (λ (p : GuidPrefix). Counts p (ToNobody config p peer) bytes seen.to_nobody) own
-          (in_message kept.prefix (ToNobody config kept.prefix peer) bytes source body seen.to_nobody header
+          subst (λ (p : GuidPrefix). Counts p (ToNobody roster p peer) bytes seen.to_nobody) own
+          (in_message kept.prefix (ToNobody roster kept.prefix peer) bytes source body seen.to_nobody header
           all.to_nobody);
     }
 
 pub observes_nothing : (of : Option Endpoint) (bytes : List ℕ)
-    → ((source : GuidPrefix) (body : List ℕ) → HasHeader bytes source body → ⊥) → (config : Config) (peer : Peer)
-    → Observes config peer of bytes nothing
-observes_nothing of bytes none config peer = record {
+    → ((source : GuidPrefix) (body : List ℕ) → HasHeader bytes source body → ⊥) → (roster : Roster) (peer : Peer)
+    → Observes roster peer of bytes nothing
+observes_nothing of bytes none roster peer = record {
   old_data = inr (unread, refl);
   old_heartbeats = inr (unread, refl);
   to_nobody = inr (unread, refl);

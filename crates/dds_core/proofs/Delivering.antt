@@ -20,14 +20,14 @@ delivered report gone = record { reply = Reported report; packets = gone.packets
 
 pub delivers : (old new : PeerKept) (bytes : List ℕ) (report : Report) (gone : Announced)
     → ReceivesPacket old bytes report new gone → SoundSteps old (event.Deliver bytes) (delivered report gone) new
-delivers old new bytes report gone receives config peer s sound =
-    let r : ReceivedPacket config peer bytes report new gone = receives config peer s in
+delivers old new bytes report gone receives roster peer s sound =
+    let r : ReceivedPacket roster peer bytes report new gone = receives roster peer s in
     let rests =
-    takes_packet config peer.number peer.delivered bytes
-    (state_of peer) report r.dues r.state s.is_peer.roster sound r.takes in
+    takes_packet roster peer.number peer.delivered bytes
+    (state_of peer) report r.dues r.state s.is_peer.is_roster sound r.takes in
     let truthful =
-    packet_truthful config peer.number peer.delivered bytes
-    (state_of peer) report r.dues r.state s.is_peer.roster sound s.tellable r.takes in
+    packet_truthful roster peer.number peer.delivered bytes
+    (state_of peer) report r.dues r.state s.is_peer.is_roster sound s.tellable r.takes in
     let after : Peer =
     record {
       number = peer.number;
@@ -40,9 +40,9 @@ delivers old new bytes report gone receives config peer s sound =
         same_number = refl;
         knows = tt;
         step = (rests.receives, refl);
-        sent = sent_true config peer.number r.state.part r.dues gone.packets.items gone.unsent truthful r.sent;
+        sent = sent_true roster peer.number r.state.part r.dues gone.packets.items gone.unsent truthful r.sent;
       },
-      stands_again new config (with_state peer r.state) after refl refl refl r.stands,
+      stands_again new roster (with_state peer r.state) after refl refl refl r.stands,
       rests.backed,
       record { report = report; reply = refl; dues = r.dues; takes = r.takes; sent = r.sent },
     )

@@ -2,8 +2,9 @@
 use Rattle.std.proofs.Common.{◌≡◌, ℕ, zero, suc, List, [], Option, Some, None, Bool, false, length, refl, ap, sym, ◌∙◌, subst, arith}
 use Rattle.std.specs.Prelude.{if◌then◌else◌, not}
 use Rattle.dds_base.specs.declared.code.Code.{Code}
-use Rattle.dds_base.specs.declared.code.Code.TheVariants.{BadParameter, PreconditionNotMet}
 use Rattle.dds_base.specs.declared.config.Config.{Config}
+use Rattle.dds_base.specs.declared.code.Code.TheVariants.{BadParameter, PreconditionNotMet}
+use Rattle.dds_protocol.specs.Roster.{Roster}
 use Rattle.dds_base.specs.declared.entity.Entity.{Entity}
 use Rattle.dds_base.specs.declared.entity.Entity.TheVariants as entity
 use Rattle.dds_conditions.specs.Watched.{Watched}
@@ -49,7 +50,7 @@ module _ {L : Type 0} (notices : L → List Notice) (capacity : L → ℕ) (beco
       (λ part. each_told (reader_told before) (length mid.readers)
       (each_told (writer_told before) (length old.writers) part)) (at_end before)
       old slots new after
-      (λ config peer s.
+      (λ roster peer s.
       ap (λ (n : ℕ). each_told (reader_told before) n (each_told (writer_told before) (length old.writers) peer.part))
       (same ∙ sym s.readers.count)
       ∙ ap (λ (n : ℕ). each_told (reader_told before) (length peer.part.dds.readers)
@@ -58,8 +59,8 @@ module _ {L : Type 0} (notices : L → List Notice) (capacity : L → ℕ) (beco
       (each_told (reader_told before) (length mid.readers)) old slots mid between new after first second)
 
 -- what a peer knows was claimed, also after its listeners were told
-sound_at_end : (config : Config) (before peer : Peer) → IsSound config peer → IsSound config (peer_at_end before peer)
-sound_at_end config before peer sound =
+sound_at_end : (roster : Roster) (before peer : Peer) → IsSound roster peer → IsSound roster (peer_at_end before peer)
+sound_at_end roster before peer sound =
     let rows = end_rows before.part peer.part in
     record {
       place =
@@ -94,12 +95,12 @@ module _ {L : Type 0} (notices : L → List Notice) (capacity : L → ℕ) (beco
 -- ---- the opening of a peer
 
 -- all that is known there was claimed
-pub opens_sound : (config : Config) (n : ℕ) → IsSound config (opening_peer config n)
-opens_sound config zero =
+pub opens_sound : (config : Config) (roster : Roster) (n : ℕ) → IsSound roster (opening_peer config n)
+opens_sound config roster zero =
     let peers = opening_peers config.peers 1 config.peers in
-    subst (λ (p : Peer). IsSound config (record p { number = 0 })) (past_end peers (length peers) no_peer (omega arith))
-    (opens_known config (length peers) 0)
-opens_sound config (suc i) = opens_known config i (opening_peer config (suc i)).number
+    subst (λ (p : Peer). IsSound roster (record p { number = 0 })) (past_end peers (length peers) no_peer (omega arith))
+    (opens_known config roster (length peers) 0)
+opens_sound config roster (suc i) = opens_known config roster i (opening_peer config (suc i)).number
 
 -- ---- steps
 
@@ -110,24 +111,24 @@ module _ {F L : Type 0} (notices : L → List Notice) (capacity : L → ℕ) (be
       → is_any old.listeners ≡ false → Steps notices capacity becomes tests old ev output
       (record { filtered = new; listeners = old.listeners })
   steps_untold tests old ev output new h none = record {
-    step = λ given config peer s sound.
-        let r = h.step config peer s.stands sound in
+    step = λ given roster peer s sound.
+        let r = h.step roster peer s.stands sound in
         let after : Peer = r.0 in
         let kept : after.part.dds.listeners ≡ peer.part.dds.listeners =
-        keeps_listeners config tests peer ev output after r.1 in
+        keeps_listeners roster tests peer ev output after r.1 in
         let slots : SlotsStandFor notices capacity becomes given old.listeners after.part.dds.listeners =
         subst (λ (p : Places). SlotsStandFor notices capacity becomes given old.listeners p) (sym kept) s.listeners in
         let same : at_end peer.part after.part ≡ after.part =
         end_untold peer.part after.part
         (λ e status. nobody_takes notices capacity becomes given old.listeners after.part.dds.listeners none slots e status) in
-        let stands : StandsFor notices capacity becomes given (record { filtered = new; listeners = old.listeners }) config after =
+        let stands : StandsFor notices capacity becomes given (record { filtered = new; listeners = old.listeners }) roster after =
         record { stands = r.2; listeners = slots } in (
           after,
           r.1,
           r.4,
-          subst (λ (p : Part). StandsFor notices capacity becomes given (record { filtered = new; listeners = old.listeners }) config
+          subst (λ (p : Part). StandsFor notices capacity becomes given (record { filtered = new; listeners = old.listeners }) roster
               (record after { part = p })) (sym same) stands,
-          sound_at_end config peer after r.3,
+          sound_at_end roster peer after r.3,
         );
     filters = h.filters;
   }
@@ -141,14 +142,14 @@ module _ {F L : Type 0} (notices : L → List Notice) (capacity : L → ℕ) (be
       → new.filters ≡ mid.filters → Steps notices capacity becomes tests old ev output
       (record { filtered = new; listeners = after })
   steps_told tests old ev output mid new after marks h marked tells same = record {
-    step = λ given config peer s sound.
-        let r = h.step config peer s.stands sound in
+    step = λ given roster peer s sound.
+        let r = h.step roster peer s.stands sound in
         let stepped : Peer = r.0 in
         let kept : stepped.part.dds.listeners ≡ peer.part.dds.listeners =
-        keeps_listeners config tests peer ev output stepped r.1 in
+        keeps_listeners roster tests peer ev output stepped r.1 in
         let slots : SlotsStandFor notices capacity becomes given old.listeners stepped.part.dds.listeners =
         subst (λ (p : Places). SlotsStandFor notices capacity becomes given old.listeners p) (sym kept) s.listeners in
-        let told = tells peer.part (marked config peer s.stands.stands) given config stepped r.2.stands slots in (
+        let told = tells peer.part (marked roster peer s.stands.stands) given roster stepped r.2.stands slots in (
           stepped,
           r.1,
           r.4,
@@ -161,20 +162,20 @@ module _ {F L : Type 0} (notices : L → List Notice) (capacity : L → ℕ) (be
             };
             listeners = told.1;
           },
-          sound_at_end config peer stepped r.3,
+          sound_at_end roster peer stepped r.3,
         );
     filters = same ∙ h.filters;
   }
 
   -- ---- the opening
 
-  pub opens : (filtered : FilteredKept F) (listeners : Slotted L) (config : Config) (n writers readers : ℕ)
-      → FilteredStandsFor filtered config (opening_peer config n)
+  pub opens : (filtered : FilteredKept F) (listeners : Slotted L) (config : Config) (roster : Roster)
+      (n writers readers : ℕ) → FilteredStandsFor filtered roster (opening_peer config n)
       → writers ≡ length filtered.peer.writers → readers ≡ length filtered.peer.readers
       → listeners ≡ nobody writers readers
       → StandsFor notices capacity becomes (no_listeners (opening_peer config n).part)
-      (record { filtered = filtered; listeners = listeners }) config (opening_peer config n)
-  opens filtered listeners config n writers readers s w r none =
+      (record { filtered = filtered; listeners = listeners }) roster (opening_peer config n)
+  opens filtered listeners config roster n writers readers s w r none =
       let part : Part = (opening_peer config n).part in
       let of_writers = s.stands.writers.count ∙ sym w in
       let of_readers = s.stands.readers.count ∙ sym r in
@@ -202,14 +203,14 @@ module _ {F L : Type 0} (notices : L → List Notice) (capacity : L → ℕ) (be
       → Adds notices capacity becomes old filter number (record { filtered = new; listeners = old.listeners })
   adds old filter number new h = record {
     filters = h.filters;
-    adds = λ given config peer s.
-        let r = h.adds config peer s.stands in
+    adds = λ given roster peer s.
+        let r = h.adds roster peer s.stands in
         (r.0, r.1, record { stands = r.2; listeners = s.listeners }, r.3);
   }
 
   pub refuses : (old : CoreKept F L) (code : Code) → FilteredRefuses old.filtered code
       → RefusesFilter notices capacity becomes old code
-  refuses old code h given config peer s = h config peer s.stands
+  refuses old code h given roster peer s = h roster peer s.stands
 
   -- ---- listeners
 
@@ -218,14 +219,14 @@ module _ {F L : Type 0} (notices : L → List Notice) (capacity : L → ℕ) (be
       → Sets notices capacity becomes old e mask listener handed (record { filtered = old.filtered; listeners = new })
   sets old e mask listener handed new h = record {
     filters = refl;
-    sets = λ given config peer s.
+    sets = λ given roster peer s.
         let r = h.back given peer.part.dds.listeners s.listeners in (
           same_refusal notices capacity becomes given old.listeners peer.part.dds.listeners s.listeners e listener ∙ h.accepted,
           r.0,
           record {
             stands =
                 record {
-                  stands = listeners_apart old.filtered.peer config peer _ s.stands.stands;
+                  stands = listeners_apart old.filtered.peer roster peer _ s.stands.stands;
                   filters = s.stands.filters;
                 };
             listeners = r.1;
@@ -243,5 +244,5 @@ module _ {F L : Type 0} (notices : L → List Notice) (capacity : L → ℕ) (be
   pub refuses_listener : (old : CoreKept F L) (e : Entity) (listener : Option L) (code : Code)
       → listener_refusal notices old.listeners e listener ≡ Some code
       → RefusesListener notices capacity becomes old e listener code
-  refuses_listener old e listener code h given config peer s =
+  refuses_listener old e listener code h given roster peer s =
       same_refusal notices capacity becomes given old.listeners peer.part.dds.listeners s.listeners e listener ∙ h

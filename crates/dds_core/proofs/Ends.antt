@@ -1,6 +1,6 @@
 -- A step of one of the peer's own writers or readers is a step of the peer.
 use Rattle.std.proofs.Common.{◌≡◌, ℕ, zero, suc, List, [], ◌∷◌, arith, Some, map, set, get_or, slice_get, length-set, refl, subst, ap, sym, ◌∙◌}
-use Rattle.dds_base.specs.declared.config.Config.{Config}
+use Rattle.dds_protocol.specs.Roster.{Roster}
 use Rattle.dds_base.specs.Written.{Written}
 use Rattle.dds_base.specs.declared.endpoint.Endpoint.{Endpoint}
 use Rattle.dds_protocol.specs.Dues.{AreTellable}
@@ -90,18 +90,18 @@ writer_stands_on k w old new same s = record {
         ap (λ (c : Contact). f c ∷ map (λ (q : ReaderProxy). f (new q.reader)) ps) (same p.reader)
         ∙ ap (λ xs. f (old p.reader) ∷ xs) (each f ps)
 
--- own writer n has become another one of the configuration, and what is known of its readers has changed
-pub own_writer_put : (config : Config) (peer : Peer) (kept : PeerKept) → StandsFor kept config peer
+-- own writer n has become another one of the roster, and what is known of its readers has changed
+pub own_writer_put : (roster : Roster) (peer : Peer) (kept : PeerKept) → StandsFor kept roster peer
     → (i : ℕ) (k k' : WriterKept) → slice_get kept.writers i ≡ Some k
-    → IsPeerOf config peer.number (identity_of (with_writer kept i k'))
+    → IsPeerOf roster peer.number (identity_of (with_writer kept i k'))
     → (w : Writer) (answered : ℕ → Endpoint → Contact)
     → WriterStands k' w (answered (suc i))
     → ((j : ℕ) → (j ≡ i → ⊥) → (r : Endpoint) → answered (suc j) r ≡ peer.known.answered (suc j) r)
     → AreTellable (at_writer peer.part (suc i) w)
-    → StandsFor (with_writer kept i k') config
+    → StandsFor (with_writer kept i k') roster
     (with_state peer
     (record { part = at_writer peer.part (suc i) w; known = record peer.known { answered = answered } }))
-own_writer_put config peer kept s i k k' at is_peer w answered stands others tellable =
+own_writer_put roster peer kept s i k k' at is_peer w answered stands others tellable =
     let ws : List Writer = peer.part.rtps.writers in
     record {
       is_peer = is_peer;
@@ -122,28 +122,28 @@ own_writer_put config peer kept s i k k' at is_peer w answered stands others tel
     }
 
 -- the same of one that is named as it was
-pub writer_put : (config : Config) (peer : Peer) (kept : PeerKept) → StandsFor kept config peer
+pub writer_put : (roster : Roster) (peer : Peer) (kept : PeerKept) → StandsFor kept roster peer
     → (i : ℕ) (k k' : WriterKept) → slice_get kept.writers i ≡ Some k → writer_identity k' ≡ writer_identity k
     → (w : Writer) (answered : ℕ → Endpoint → Contact)
     → WriterStands k' w (answered (suc i))
     → ((j : ℕ) → (j ≡ i → ⊥) → (r : Endpoint) → answered (suc j) r ≡ peer.known.answered (suc j) r)
     → AreTellable (at_writer peer.part (suc i) w)
-    → StandsFor (with_writer kept i k') config
+    → StandsFor (with_writer kept i k') roster
     (with_state peer
     (record { part = at_writer peer.part (suc i) w; known = record peer.known { answered = answered } }))
-writer_put config peer kept s i k k' at same w answered stands others tellable =
-    own_writer_put config peer kept s i k k' at
-    (subst (λ (x : Identity). IsPeerOf config peer.number x) (sym (same_with_writer kept i k k' at same)) s.is_peer)
+writer_put roster peer kept s i k k' at same w answered stands others tellable =
+    own_writer_put roster peer kept s i k k' at
+    (subst (λ (x : Identity). IsPeerOf roster peer.number x) (sym (same_with_writer kept i k k' at same)) s.is_peer)
     w answered stands others tellable
 
 -- own writer n stepped
-pub own_writer_stepped : (kept : PeerKept) (i : ℕ) (k k' : WriterKept) (entry : Written) (config : Config) (peer : Peer)
-    → StandsFor kept config peer → slice_get kept.writers i ≡ Some k → Enters k entry k'
+pub own_writer_stepped : (kept : PeerKept) (i : ℕ) (k k' : WriterKept) (entry : Written) (roster : Roster) (peer : Peer)
+    → StandsFor kept roster peer → slice_get kept.writers i ≡ Some k → Enters k entry k'
     → AreTellable (entered_at peer (suc i) entry).part
-    → StandsFor (with_writer kept i k') config (entered_at peer (suc i) entry)
-own_writer_stepped kept i k k' entry config peer s at enters tellable =
+    → StandsFor (with_writer kept i k') roster (entered_at peer (suc i) entry)
+own_writer_stepped kept i k k' entry roster peer s at enters tellable =
     let w : Writer = get_or peer.part.rtps.writers i no_writer in
-    writer_put config peer kept s i k k' at enters.same (with_written w entry) peer.known.answered
+    writer_put roster peer kept s i k k' at enters.same (with_written w entry) peer.known.answered
     (enters.stands w (peer.known.answered (suc i)) (s.writers.each i k at)) (λ j apart r. refl) tellable
 
 -- the part of a peer with another reader of this number
@@ -171,18 +171,18 @@ reader_stands_on k proxies r old new same s = record {
 
 -- own reader n stepped, and knows what it knows now
 pub own_reader_stepped : (kept : PeerKept) (i : ℕ) (k k' : ReaderKept) (proxies : List WriterProxy) (r : Reader)
-    (known : Known) (config : Config) (peer : Peer) → StandsFor kept config peer → slice_get kept.readers i ≡ Some k
+    (known : Known) (roster : Roster) (peer : Peer) → StandsFor kept roster peer → slice_get kept.readers i ≡ Some k
     → reader_identity k' ≡ reader_identity k → known.answered ≡ peer.known.answered
     → ((w : Endpoint) (n : ℕ) → (n ≡ suc i → ⊥) → known.tracked w n ≡ peer.known.tracked w n)
     → ReaderStands k' proxies r (λ w. known.tracked w (suc i))
-    → StandsFor (with_reader kept i k') config
+    → StandsFor (with_reader kept i k') roster
     (record peer { part = with_read peer.part (suc i) proxies r; known = known })
-own_reader_stepped kept i k k' proxies r known config peer s at same counts others stands =
+own_reader_stepped kept i k k' proxies r known roster peer s at same counts others stands =
     let ps : List (List WriterProxy) = peer.part.rtps.readers in
     let rs : List Reader = peer.part.dds.readers in
     record {
       is_peer =
-          subst (λ (x : Identity). IsPeerOf config peer.number x)
+          subst (λ (x : Identity). IsPeerOf roster peer.number x)
           (sym (same_with_reader kept i k k' at same)) s.is_peer;
       moment = s.moment;
       early = s.early;
@@ -220,15 +220,15 @@ abbrev pub readers_with : Part → ℕ → Reader → Dds
 readers_with part reader r = record part.dds { readers = with_numbered part.dds.readers reader r }
 
 -- own reader n stepped, and knows of its writers what it knew
-pub own_reader_changed : (kept : PeerKept) (i : ℕ) (k k' : ReaderKept) (r : Reader) (config : Config) (peer : Peer)
-    → StandsFor kept config peer → slice_get kept.readers i ≡ Some k → reader_identity k' ≡ reader_identity k
+pub own_reader_changed : (kept : PeerKept) (i : ℕ) (k k' : ReaderKept) (r : Reader) (roster : Roster) (peer : Peer)
+    → StandsFor kept roster peer → slice_get kept.readers i ≡ Some k → reader_identity k' ≡ reader_identity k
     → ReaderStands k' (own_proxies peer.part (suc i)) r (λ w. peer.known.tracked w (suc i))
-    → StandsFor (with_reader kept i k') config
+    → StandsFor (with_reader kept i k') roster
     (record peer { part = record peer.part { dds = readers_with peer.part (suc i) r } })
-own_reader_changed kept i k k' r config peer s at same one =
+own_reader_changed kept i k k' r roster peer s at same one =
     let rows : set peer.part.rtps.readers i (own_proxies peer.part (suc i)) ≡ peer.part.rtps.readers =
     set_same peer.part.rtps.readers i [] in
-    subst (λ (ps : List (List WriterProxy)). StandsFor (with_reader kept i k') config
+    subst (λ (ps : List (List WriterProxy)). StandsFor (with_reader kept i k') roster
     (record peer { part = with_rows peer.part ps (readers_with peer.part (suc i) r) })) rows
-    (own_reader_stepped kept i k k' (own_proxies peer.part (suc i)) r peer.known config peer s at same
+    (own_reader_stepped kept i k k' (own_proxies peer.part (suc i)) r peer.known roster peer s at same
     refl (λ w n apart. refl) one)

@@ -1,150 +1,168 @@
--- What a peer stands for in a configuration it stands for in each roster in which the peers of that come first, and so
--- it is with what it knows at its opening.
-use Rattle.std.proofs.Common.{◌≡◌, ℕ, zero, suc, ◌+◌, ◌-◌, ◌<◌, true, List, [], ◌∷◌, ◌++◌, Some, Contains, get_or, slice_get, refl, ap, sym, ◌∙◌, subst, arith}
-use Rattle.std.specs.Prelude.{nat_lt}
-use Rattle.std.proofs.lemmas.Bool.Decides.{nat_tests}
+-- What a peer stands for in the roster of a configuration it stands for in that of each list of peers in which those of
+-- the configuration come first.
+use Rattle.std.proofs.Common.{◌≡◌, ℕ, ◌+◌, true, List, Some, Contains, slice_get, refl, ap, sym, ◌∙◌, subst, eq-eqb}
 use Rattle.dds_base.specs.declared.config.Config.{Config}
 use Rattle.dds_base.specs.declared.config.PeerConfig.{PeerConfig}
-use Rattle.dds_base.specs.declared.config.ReaderConfig.{ReaderConfig}
-use Rattle.dds_base.specs.declared.config.WriterConfig.{WriterConfig}
 use Rattle.dds_base.specs.declared.endpoint.Endpoint.{Endpoint}
 use Rattle.dds_base.specs.declared.guid.EntityId.{EntityId}
-use Rattle.dds_base.specs.declared.guid.Guid.{Guid}
-use Rattle.dds_notices.specs.declared.notice.Notice.{Notice}
-use Rattle.dds_notices.specs.Listeners.{ByEntity}
-use Rattle.rtps_reader.specs.Tracked.{is_passable}
-use Rattle.dds_protocol.specs.Claims.{IsNumbered}
-use Rattle.dds_protocol.specs.Opening.{opening_peers}
-use Rattle.dds_protocol.specs.Peer.{Delivery, Peer, no_peer}
-use Rattle.dds_protocol.specs.Protocol.{Known, knows_nothing}
-use Rattle.dds_protocol.specs.Roster.{IsRoster}
-use Rattle.dds_ends.specs.declared.matching.ReaderName.{ReaderName}
+use Rattle.dds_base.specs.declared.guid.GuidPrefix.{GuidPrefix}
+use Rattle.dds_machine.specs.Numbered.{HasNumber}
+use Rattle.dds_machine.specs.Part.{peers_of}
+use Rattle.dds_protocol.specs.Claims.{IsNumbered, IsReader, IsWriter}
+use Rattle.dds_protocol.specs.Peer.{Peer}
+use Rattle.dds_protocol.specs.Roster.{ComeFirst, roster_of}
+use Rattle.dds_protocol.proofs.Listed.{element_at, lists_both, lists_reader, lists_writer, matched_is, numbered_on, prefix_is, reader_is, reliable_is, writer_is}
+use Rattle.dds_protocol.proofs.PeersOf.{end_of_peer}
+use Rattle.dds_protocol.proofs.Rosters.{good_are_rosters}
 use Rattle.dds_ends.specs.declared.matching.Destination.{Destination}
+use Rattle.dds_ends.specs.declared.matching.ReaderName.{ReaderName}
 use Rattle.dds_ends.specs.declared.matching.TopicName.{TopicName}
-use Rattle.dds_ends.specs.declared.matching.WriterName.{WriterName}
-use Rattle.dds_ends.specs.Identity.{IsConfiguredReader, IsWriterOf, ReaderIdentity, WriterIdentity}
-use Rattle.dds_ends.specs.MatchedEnds.{AreMatchedNow, IsEndNamed, IsKnownReader, IsNameOf, IsPeer, IsReaderOf, IsReliableName}
-use Rattle.dds_core.specs.Filtering.{FilteredKept, StandsFor as FilteredStandsFor}
+use Rattle.dds_ends.specs.Identity.{IsReaderOf, IsWriterOf, ReaderIdentity, WriterIdentity}
+use Rattle.dds_ends.specs.MatchedEnds.{AreMatchedNow, IsKnownReader, IsNameOf, IsPeer, IsReliableName, readers_of}
 use Rattle.dds_core.specs.Identity.{Identity, IsPeerOf}
 use Rattle.dds_core.specs.Kept.{PeerKept}
-use Rattle.dds_core.specs.Listening.{CoreKept, StandsFor as CoreStandsFor}
-use Rattle.dds_core.specs.Opening.{InRosters, opening_peer}
-use Rattle.dds_core.specs.Ruling.{IsSound}
+use Rattle.dds_core.specs.Opening.{InRosters}
 use Rattle.dds_core.specs.Standing.{StandsFor}
-use Rattle.dds_core.proofs.Ended.{opens_sound}
-
--- ---- the ends of its peers
-
-there : {X : Type 0} (xs later : List X) (i : ℕ) (x : X) → slice_get xs i ≡ Some x → slice_get (xs ++ later) i ≡ Some x
-there [] later i x at = absurd cc
-there (y ∷ ys) later zero x at = at
-there (y ∷ ys) later (suc i) x at = there ys later i x at
-
-numbered_in : {X : Type 0} (xs later : List X) (n : ℕ) (x : X) → IsNumbered xs n x → IsNumbered (xs ++ later) n x
-numbered_in xs later n x at = (at.0, there xs later (n - 1) x at.1)
+use Rattle.dds_core.proofs.Sent.{contains_map, name_of}
 
 -- with peers behind them each end is what it was
-module _ (peers later : List PeerConfig) where
-  abbrev reader_in : (topic : ℕ) (reader : Endpoint) → IsReaderOf peers topic reader
-      → IsReaderOf (peers ++ later) topic reader
-  reader_in topic reader is = record {
-    peer = is.peer;
-    at_peer = numbered_in peers later reader.peer is.peer is.at_peer;
-    end = is.end;
-    at_reader = is.at_reader;
-    same_topic = is.same_topic;
+module _ (config all : Config) (first : ComeFirst config all) where
+  prefix_in : (n : ℕ) (p : PeerConfig) → IsNumbered config.peers n p
+      → (roster_of all).prefix n ≡ (roster_of config).prefix n
+  prefix_in n p here = prefix_is all n p (numbered_on config all first n p here) ∙ sym (prefix_is config n p here)
+
+  writer_in : (w : Endpoint) (prefix : GuidPrefix) (entity : EntityId) → IsWriter (roster_of config) prefix entity w
+      → IsWriter (roster_of all) prefix entity w
+  writer_in w prefix entity is =
+      let x = lists_writer config w entity is.at_writer in
+      let s = x.stands in
+      record {
+        same_prefix = prefix_in w.peer s.peer s.at_peer ∙ is.same_prefix;
+        at_writer =
+            writer_is all w s.peer x.end (numbered_on config all first w.peer s.peer s.at_peer) s.at_end
+            ∙ ap (λ (e : EntityId). Some e) x.same_entity;
+      }
+
+  reader_in : (r : Endpoint) (prefix : GuidPrefix) (entity : EntityId) → IsReader (roster_of config) prefix entity r
+      → IsReader (roster_of all) prefix entity r
+  reader_in r prefix entity is =
+      let x = lists_reader config r entity is.at_reader in
+      let s = x.stands in
+      record {
+        same_prefix = prefix_in r.peer s.peer s.at_peer ∙ is.same_prefix;
+        at_reader =
+            reader_is all r s.peer x.end (numbered_on config all first r.peer s.peer s.at_peer) s.at_end
+            ∙ ap (λ (e : EntityId). Some e) x.same_entity;
+      }
+
+  -- a reader that there is
+  reliable_in : (r : Endpoint) (entity : EntityId) → (roster_of config).readers r ≡ Some entity
+      → (roster_of all).is_reliable r ≡ (roster_of config).is_reliable r
+  reliable_in r entity there =
+      let x = lists_reader config r entity there in
+      let s = x.stands in
+      reliable_is all r s.peer x.end (numbered_on config all first r.peer s.peer s.at_peer) s.at_end
+      ∙ sym (reliable_is config r s.peer x.end s.at_peer s.at_end)
+
+  both_in : (w r : Endpoint) → (roster_of config).are_matched w r ≡ true → (roster_of all).are_matched w r ≡ true
+  both_in w r matched =
+      let b = lists_both config w r matched in
+      let s = b.at_writer in
+      let u = b.at_reader in
+      matched_is all w r s.peer u.peer b.writer b.reader (numbered_on config all first w.peer s.peer s.at_peer) s.at_end
+      (numbered_on config all first r.peer u.peer u.at_peer) u.at_end
+      ∙ eq-eqb b.writer.topic b.reader.topic b.one_topic
+
+  name_in : (writer : Endpoint) (name : ReaderName) → IsNameOf (roster_of config) writer name
+      → IsNameOf (roster_of all) writer name
+  name_in writer name is = record {
+    is = reader_in name.reader name.guid.prefix name.guid.entity is.is;
+    matched = both_in writer name.reader is.matched;
   }
 
-  abbrev name_in : (topic : ℕ) (name : ReaderName) → IsNameOf peers topic name → IsNameOf (peers ++ later) topic name
-  name_in topic name is = record {
-    is = reader_in topic name.reader is.is;
-    same_prefix = is.same_prefix;
-    same_entity = is.same_entity;
+  known_in : (writer : Endpoint) (known : TopicName) → IsKnownReader (roster_of config) writer known
+      → IsKnownReader (roster_of all) writer known
+  known_in writer known is = record {
+    name_is = name_in writer known.name is.name_is;
+    as_reliable = reliable_in known.name.reader known.name.guid.entity is.name_is.is.at_reader ∙ is.as_reliable;
   }
 
-  known_in : (topic : ℕ) (known : TopicName) → IsKnownReader peers topic known
-      → IsKnownReader (peers ++ later) topic known
-  known_in topic known is =
-      record { name_is = name_in topic known.name is.name_is; as_reliable = is.as_reliable }
-
-  reliable_in : (topic : ℕ) (name : ReaderName) → IsReliableName peers topic name
-      → IsReliableName (peers ++ later) topic name
-  reliable_in topic name is = record { name_is = name_in topic name is.name_is; reliable = is.reliable }
-
-  peer_in : (d : Destination) → IsPeer peers d → IsPeer (peers ++ later) d
-  peer_in d is =
-      record { peer = is.peer; at = numbered_in peers later d.peer is.peer is.at; prefix = is.prefix }
-
-  end_in : {E : Type 0} (ends : PeerConfig → List E) (topic_of : E → ℕ) (entity_of : E → EntityId) (topic : ℕ)
-      (endpoint : Endpoint) (guid : Guid) → IsEndNamed ends topic_of entity_of peers topic endpoint guid
-      → IsEndNamed ends topic_of entity_of (peers ++ later) topic endpoint guid
-  end_in ends topic_of entity_of topic endpoint guid is = record {
-    peer = is.peer;
-    at_peer = numbered_in peers later endpoint.peer is.peer is.at_peer;
-    same_prefix = is.same_prefix;
-    end = is.end;
-    at_end = is.at_end;
-    same_entity = is.same_entity;
-    same_topic = is.same_topic;
+  reliable_name_in : (writer : Endpoint) (name : ReaderName) → IsReliableName (roster_of config) writer name
+      → IsReliableName (roster_of all) writer name
+  reliable_name_in writer name is = record {
+    name_is = name_in writer name is.name_is;
+    reliable = reliable_in name.reader name.guid.entity is.name_is.is.at_reader ∙ is.reliable;
   }
 
-  matched_in : (topic : ℕ) (matched : List ReaderName) (to : List Destination) (names : List ReaderName)
-      → AreMatchedNow peers topic matched to names → AreMatchedNow (peers ++ later) topic matched to names
-  matched_in topic matched to names are = record {
-    readers = λ k n at. name_in topic n (are.readers k n at);
+  -- a peer to which a writer sends is that of a reader
+  peer_in : (writer : Endpoint) (matched : List ReaderName) (to : List Destination) (names : List ReaderName)
+      → AreMatchedNow (roster_of config) writer matched to names → (k : ℕ) (d : Destination)
+      → slice_get to k ≡ Some d → IsPeer (roster_of all) d
+  peer_in writer matched to names are k d at =
+      let among : Contains (peers_of (readers_of matched)) d.peer =
+      subst (λ (ns : List ℕ). Contains ns d.peer) (sym are.sent_to) (contains_map to k d at) in
+      let e = end_of_peer (readers_of matched) d.peer among in
+      let n = name_of (roster_of config) writer matched e.0 are.readers e.1 in
+      let x = lists_reader config n.0.reader n.0.guid.entity n.1.is.at_reader in
+      let there : n.0.reader.peer ≡ d.peer = ap (λ (r : Endpoint). r.peer) n.2 ∙ e.2 in
+      prefix_in d.peer x.stands.peer
+      (subst (λ (m : ℕ). IsNumbered config.peers m x.stands.peer) there x.stands.at_peer) ∙ are.prefixes k d at
+
+  matched_in : (writer : Endpoint) (matched : List ReaderName) (to : List Destination) (names : List ReaderName)
+      → AreMatchedNow (roster_of config) writer matched to names → AreMatchedNow (roster_of all) writer matched to names
+  matched_in writer matched to names are = record {
+    readers = λ k n at. name_in writer n (are.readers k n at);
     sent_to = are.sent_to;
-    prefixes = λ k d at. peer_in d (are.prefixes k d at);
-    named = λ k n at. reliable_in topic n (are.named k n at);
+    prefixes = peer_in writer matched to names are;
+    named = λ k n at. reliable_name_in writer n (are.named k n at);
   }
 
-  writer_in : (w : WriterConfig) (is : WriterIdentity) → IsWriterOf peers w is → IsWriterOf (peers ++ later) w is
-  writer_in w is of = record {
-    entity = of.entity;
-    autodispose = of.autodispose;
-    max_value = of.max_value;
-    known = λ k n at. known_in w.topic n (of.known k n at);
-    ends = matched_in w.topic is.matched is.destinations is.readers of.ends;
+  own_writer_in : (writer : Endpoint) (is : WriterIdentity) → IsWriterOf (roster_of config) writer is
+      → IsWriterOf (roster_of all) writer is
+  own_writer_in writer is of = record {
+    entity =
+        (writer_in writer ((roster_of config).prefix writer.peer) is.entity
+        (record { same_prefix = refl; at_writer = of.entity })).at_writer;
+    known = λ k n at. known_in writer n (of.known k n at);
+    ends = matched_in writer is.matched is.destinations is.readers of.ends;
   }
 
-  own_reader_in : (r : ReaderConfig) (is : ReaderIdentity) → IsConfiguredReader peers r is
-      → IsConfiguredReader (peers ++ later) r is
-  own_reader_in r is of = record {
-    entity = of.entity;
-    reliable = of.reliable;
+  own_reader_in : (reader : Endpoint) (is : ReaderIdentity) → IsReaderOf (roster_of config) reader is
+      → IsReaderOf (roster_of all) reader is
+  own_reader_in reader is of = record {
+    entity =
+        (reader_in reader ((roster_of config).prefix reader.peer) is.entity
+        (record { same_prefix = refl; at_reader = of.entity })).at_reader;
+    reliable = reliable_in reader is.entity of.entity ∙ of.reliable;
     writers = λ j n at.
-        end_in (λ (p : PeerConfig). p.writers) (λ (w : WriterConfig). w.topic) (λ (w : WriterConfig). w.entity) r.topic
-        n.writer n.guid (of.writers j n at);
+        let w = of.writers j n at in
+        record {
+          is = writer_in n.writer n.guid.prefix n.guid.entity w.is;
+          matched = both_in n.writer reader w.matched;
+        };
   }
 
--- ---- a peer
-
-peer_of : (config : Config) (number : ℕ) (identity : Identity) → IsPeerOf config number identity
-    → InRosters config (λ roster. IsPeerOf roster number identity)
-peer_of config number identity is roster first good =
-    let later : List PeerConfig = first.0 in
-    let same : config.peers ++ later ≡ roster.peers = sym first.1 in
+-- one of the peers of the configuration
+peer_of : (config : Config) (number : ℕ) (identity : Identity) → HasNumber config.peers number
+    → IsPeerOf (roster_of config) number identity → InRosters config (λ roster. IsPeerOf roster number identity)
+peer_of config number identity there is all first good =
+    let own = element_at config.peers number there in
     record {
-      roster = good;
-      own = is.own;
-      at = subst (λ (ps : List PeerConfig). IsNumbered ps number is.own) same
-          (numbered_in config.peers later number is.own is.at);
-      prefix = is.prefix;
-      count = is.count;
-      writers = λ i w x at_w at_x.
-          subst (λ (ps : List PeerConfig). IsWriterOf ps w x) same
-          (writer_in config.peers later w x (is.writers i w x at_w at_x));
-      reader_count = is.reader_count;
-      readers = λ i r x at_r at_x.
-          subst (λ (ps : List PeerConfig). IsConfiguredReader ps r x) same
-          (own_reader_in config.peers later r x (is.readers i r x at_r at_x));
+      is_roster = good_are_rosters all good;
+      prefix = prefix_in config all first number own.0 own.1 ∙ is.prefix;
+      writers = λ i x at.
+          own_writer_in config all first (record { peer = number; number = i + 1 }) x (is.writers i x at);
+      limited = is.limited;
+      readers = λ i x at.
+          own_reader_in config all first (record { peer = number; number = i + 1 }) x (is.readers i x at);
       once = is.once;
     }
 
--- what is kept stands in the roster too
-pub stands_in : (kept : PeerKept) (config : Config) (peer : Peer) → StandsFor kept config peer
-    → InRosters config (λ roster. StandsFor kept roster peer)
-stands_in kept config peer s roster first good = record {
-  is_peer = peer_of config peer.number _ s.is_peer roster first good;
+-- what is kept of it stands in each roster too
+pub stands_in : (kept : PeerKept) (config : Config) (peer : Peer) → HasNumber config.peers peer.number
+    → StandsFor kept (roster_of config) peer → InRosters config (λ roster. StandsFor kept roster peer)
+stands_in kept config peer there s all first good = record {
+  is_peer = peer_of config peer.number _ there s.is_peer all first good;
   moment = s.moment;
   early = s.early;
   writers = s.writers;
@@ -153,65 +171,3 @@ stands_in kept config peer s roster first good = record {
   tellable = s.tellable;
   watch = s.watch;
 }
-
--- the same with filters
-pub filtered_in : {F : Type 0} (kept : FilteredKept F) (config : Config) (peer : Peer)
-    → FilteredStandsFor kept config peer → InRosters config (λ roster. FilteredStandsFor kept roster peer)
-filtered_in kept config peer s roster first good =
-    record { stands = stands_in kept.peer config peer s.stands roster first good; filters = s.filters }
-
--- ---- what is known at the opening
-
-record KnowsNothing (peer : Peer) : Type 0 where
-  known : peer.known ≡ knows_nothing
-  delivered : peer.delivered ≡ []
-
-nothing_at : (peers : List PeerConfig) (n : ℕ) (ps : List PeerConfig) (i : ℕ)
-    → KnowsNothing (get_or (opening_peers peers n ps) i no_peer)
-nothing_at peers n [] i = record { known = refl; delivered = refl }
-nothing_at peers n (p ∷ ps) zero = record { known = refl; delivered = refl }
-nothing_at peers n (p ∷ ps) (suc i) = nothing_at peers (n + 1) ps i
-
-nothing_opened : (config : Config) (n : ℕ) → KnowsNothing (opening_peer config n)
-nothing_opened config zero = record { known = refl; delivered = refl }
-nothing_opened config (suc i) = nothing_at config.peers 1 config.peers i
-
-none_below : (n : ℕ) → nat_lt n 0 ≡ true → ⊥
-none_below n e = let low : n < 0 = grind (arith, nat_tests) in absurd (omega (arith, low))
-
--- it was claimed in each roster, as in the configuration
-pub sound_in : (config roster : Config) (n : ℕ) → IsSound roster (opening_peer config n)
-sound_in config roster n =
-    let b = opens_sound config n in
-    let nothing = nothing_opened config n in
-    record {
-      place = b.place;
-      unknown = b.unknown;
-      claimed = λ w r.
-          record {
-            from = (b.claimed w r).from;
-            change = λ m c from h.
-                let e = sym (ap (λ (k : Known). (k.tracked w r).slot m) nothing.known) ∙ h in absurd cc;
-            pass = λ m from h.
-                let e = sym (ap (λ (k : Known). is_passable (k.tracked w r) m) nothing.known) ∙ h in
-                absurd (none_below m e);
-          };
-      newest = λ w r has d count among h.
-          let c = subst (λ (ds : List Delivery). Contains ds d) nothing.delivered among in
-          let none = c.1 in absurd (omega (arith, none));
-      heard = b.heard;
-    }
-
--- a peer with filters and listeners stands for its opening in each roster, and all that it knows there was claimed
-pub core_in : {F L : Type 0} (notices : L → List Notice) (capacity : L → ℕ) (becomes : L → Notice → L → Type 0)
-    (given : ByEntity L) (kept : CoreKept F L) (config : Config) (n : ℕ)
-    → CoreStandsFor notices capacity becomes given kept config (opening_peer config n)
-    → InRosters config (λ roster. CoreStandsFor notices capacity becomes given kept roster (opening_peer config n)
-    × IsSound roster (opening_peer config n))
-core_in notices capacity becomes given kept config n s roster first good = (
-  record {
-    stands = filtered_in kept.filtered config (opening_peer config n) s.stands roster first good;
-    listeners = s.listeners;
-  },
-  sound_in config roster n,
-)

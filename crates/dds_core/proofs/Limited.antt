@@ -1,20 +1,15 @@
--- How long the values of a peer's writer may be: a roster sets a limit to them.
-use Rattle.std.proofs.Common.{◌≡◌, ℕ, zero, suc, ◌≤◌, ◌==◌, Bool, true, false, not, ◌||◌, length, List, [], ◌∷◌, Some, slice_get, refl, subst, sym, arith}
+-- How many ends a good peer has, and how long the values of its writers may be.
+use Rattle.std.proofs.Common.{◌≡◌, ℕ, zero, suc, ◌≤◌, ◌==◌, Bool, true, false, not, ◌||◌, length, List, [], ◌∷◌, Some, slice_get, refl, subst, arith}
 use Rattle.std.specs.Prelude.{nat_lt}
 use Rattle.std.specs.List.{list_any}
 use Rattle.std.proofs.lemmas.Bool.Decides.{nat_tests}
 use Rattle.std.proofs.lemmas.Option.{same_Some}
-use Rattle.dds_base.specs.declared.config.Config.{Config}
 use Rattle.dds_base.specs.declared.config.PeerConfig.{PeerConfig}
 use Rattle.dds_base.specs.declared.config.WriterConfig.{WriterConfig}
 use Rattle.dds_base.specs.declared.config.ReaderConfig.{ReaderConfig}
 use Rattle.dds_base.specs.Bounds.{max_ends}
 use Rattle.dds_base.specs.Checked.{entity_count, has_kind, has_no_depth, is_bad_lease, is_bad_peer, is_bad_reader, is_bad_writer, is_maximum}
-use Rattle.dds_protocol.specs.Roster.{IsRoster}
-use Rattle.dds_core.specs.Identity.{IsPeerOf, identity_of}
-use Rattle.dds_ends.specs.Kept.{WriterKept}
-use Rattle.dds_core.specs.Kept.{PeerKept}
-use Rattle.dds_core.proofs.Names.{configured}
+use Rattle.dds_protocol.specs.Roster.{AreGood}
 
 or_left : (a b : Bool) → (a || b) ≡ false → a ≡ false
 or_left true b h = absurd cc
@@ -41,11 +36,11 @@ third_of_four a b c d h = or_left c d (third a b (c || d) h)
 last_of_six : (a b c d e f : Bool) → (a || (b || (c || (d || (e || f))))) ≡ false → f ≡ false
 last_of_six a b c d e f h = third d e f (or_right c (d || (e || f)) (third a b (c || (d || (e || f))) h))
 
--- a peer of a roster has few writers, and few readers
-pub few_ends : (peers : List PeerConfig) → IsRoster peers → (n : ℕ) (p : PeerConfig) → slice_get peers n ≡ Some p
+-- one of good peers has few writers, and few readers
+pub few_ends : (peers : List PeerConfig) → AreGood peers → (n : ℕ) (p : PeerConfig) → slice_get peers n ≡ Some p
     → (length p.writers ≤ 16) × (length p.readers ≤ 16)
-few_ends peers roster n p at =
-    let peer : is_bad_peer p ≡ false = none_passes is_bad_peer peers n p roster.each at in
+few_ends peers good n p at =
+    let peer : is_bad_peer p ≡ false = none_passes is_bad_peer peers n p good.each at in
     let sizes : (nat_lt 16 (length p.writers) || nat_lt 16 (length p.readers)) ≡ false =
     or_left (nat_lt 16 (length p.writers) || nat_lt 16 (length p.readers))
     ((list_any (λ (v : WriterConfig). nat_lt 1 (entity_count p v.entity)) p.writers
@@ -57,11 +52,11 @@ few_ends peers roster n p at =
     or_right (nat_lt 16 (length p.writers)) (nat_lt 16 (length p.readers)) sizes in
     (grind (arith, nat_tests, writers), grind (arith, nat_tests, readers))
 
--- of each writer of a roster
-limited : (peers : List PeerConfig) → IsRoster peers → (n : ℕ) (p : PeerConfig) → slice_get peers n ≡ Some p → (i : ℕ)
-    (w : WriterConfig) → slice_get p.writers i ≡ Some w → w.max_value ≤ 65000
-limited peers roster n p at i w there =
-    let peer : is_bad_peer p ≡ false = none_passes is_bad_peer peers n p roster.each at in
+-- the values of a writer are no longer than a datagram takes
+pub limited : (peers : List PeerConfig) → AreGood peers → (n : ℕ) (p : PeerConfig) → slice_get peers n ≡ Some p
+    → (i : ℕ) (w : WriterConfig) → slice_get p.writers i ≡ Some w → w.max_value ≤ 65000
+limited peers good n p at i w there =
+    let peer : is_bad_peer p ≡ false = none_passes is_bad_peer peers n p good.each at in
     let writer : is_bad_writer w ≡ false =
     none_passes is_bad_writer p.writers i w
     (third_of_four (nat_lt max_ends (length p.writers) || nat_lt max_ends (length p.readers))
@@ -72,10 +67,3 @@ limited peers roster n p at i w there =
     last_of_six (not (has_kind 2 w.entity)) (has_no_depth w.history) (not (is_maximum w.max_samples))
     (is_bad_lease w.lease) (w.max_value == 0) (nat_lt 65000 w.max_value) writer in
     grind (arith, nat_tests)
-
--- of each writer of a peer
-pub value_limited : (config : Config) (number : ℕ) (kept : PeerKept) → IsPeerOf config number (identity_of kept)
-    → (i : ℕ) (k : WriterKept) → slice_get kept.writers i ≡ Some k → k.max_value ≤ 65000
-value_limited config number kept is i k at =
-    let c = configured config number kept is i k at in
-    subst (λ (m : ℕ). m ≤ 65000) (sym c.is.max_value) (limited config.peers is.roster _ is.own is.at.1 i c.end c.at)

@@ -2,7 +2,7 @@
 use Rattle.std.proofs.Common.{◌≡◌, ℕ, suc, ◌+◌, ◌<◌, Bool, not, Some, None, length, slice_get, refl, ap, sym, ◌∙◌, subst, arith}
 use Rattle.std.specs.Prelude.{if◌then◌else◌}
 use Rattle.dds_base.specs.declared.code.Code.TheVariants.{BadParameter}
-use Rattle.dds_base.specs.declared.config.Config.{Config}
+use Rattle.dds_protocol.specs.Roster.{Roster}
 use Rattle.dds_base.specs.declared.qos.ReaderQos.{ReaderQos}
 use Rattle.dds_base.specs.declared.status.LivelinessChangedStatus.{LivelinessChangedStatus}
 use Rattle.dds_base.specs.declared.status.SampleLostStatus.{SampleLostStatus}
@@ -31,19 +31,19 @@ record IsLook (c : Call) (kept : PeerKept) (peer : Peer) (i : ℕ) (reply : Repl
   answers : Answers no_filters peer.part c reply (after_look peer.part (suc i) seen)
   effect : effect_of peer.part c reply ≡ nothing
 
-known_reader : (kept : PeerKept) (i : ℕ) (config : Config) (peer : Peer) → StandsFor kept config peer
+known_reader : (kept : PeerKept) (i : ℕ) (roster : Roster) (peer : Peer) → StandsFor kept roster peer
     → i < length kept.readers → reader_refusal peer.part (suc i) ≡ None
-known_reader kept i config peer s lt =
+known_reader kept i roster peer s lt =
     let count = s.readers.count in
     ap (λ (b : Bool). if not b then Some BadParameter else None)
     (there_is peer.part.dds.readers i (omega (arith, lt, count)))
 
 -- what stands after a look
-looked : (c : Call) (kept : PeerKept) (i : ℕ) (k : ReaderKept) (reply : Reply) (seen : Seen) (config : Config)
+looked : (c : Call) (kept : PeerKept) (i : ℕ) (k : ReaderKept) (reply : Reply) (seen : Seen) (roster : Roster)
     (peer : Peer)
-    → StandsFor kept config peer → slice_get kept.readers i ≡ Some k → IsLook c kept peer i reply seen
-    → Follows (with_reader kept i (record k { seen = seen })) config peer (event.Call c) (silent reply)
-looked c kept i k reply seen config peer s at is =
+    → StandsFor kept roster peer → slice_get kept.readers i ≡ Some k → IsLook c kept peer i reply seen
+    → Follows (with_reader kept i (record k { seen = seen })) roster peer (event.Call c) (silent reply)
+looked c kept i k reply seen roster peer s at is =
     let r : Reader = own_reader peer.part (suc i) in
     let rs = s.readers.each i k at in (
       record peer { part = record peer.part { dds = after_look peer.part (suc i) seen } },
@@ -53,7 +53,7 @@ looked c kept i k reply seen config peer s at is =
         step = (record { answers = is.answers; rtps = ap (λ e. effect peer.part.rtps e) (sym is.effect) }, refl);
         sent = λ p x m h. absurd (omega (arith, m.1));
       },
-      own_reader_changed kept i k (record k { seen = seen }) (record r { seen = seen }) config peer s at refl (record {
+      own_reader_changed kept i k (record k { seen = seen }) (record r { seen = seen }) roster peer s at refl (record {
         writers_are = rs.writers_are;
         places = rs.places;
         knows = rs.knows;
@@ -69,10 +69,10 @@ looked c kept i k reply seen config peer s at is =
 
 -- a look at SAMPLE_LOST
 pub looked_at_lost : (kept : PeerKept) (reader i : ℕ) (k k' : ReaderKept) (status : SampleLostStatus) (seen : Seen)
-    (config : Config) (peer : Peer) → StandsFor kept config peer → reader ≡ i + 1 → i < length kept.readers
+    (roster : Roster) (peer : Peer) → StandsFor kept roster peer → reader ≡ i + 1 → i < length kept.readers
     → slice_get kept.readers i ≡ Some k → TellsLost k status seen → k' ≡ record k { seen = seen }
-    → Follows (with_reader kept i k') config peer (event.Call (call.GetSampleLost reader)) (silent (SampleLost status))
-looked_at_lost kept reader i k k' status seen config peer s is lt at tells after =
+    → Follows (with_reader kept i k') roster peer (event.Call (call.GetSampleLost reader)) (silent (SampleLost status))
+looked_at_lost kept reader i k k' status seen roster peer s is lt at tells after =
     let r : Reader = own_reader peer.part (suc i) in
     let rs = s.readers.each i k at in
     let told = tells r.happened rs.holds in
@@ -82,29 +82,29 @@ looked_at_lost kept reader i k k' status seen config peer s is lt at tells after
     told.1
     ∙ ap (λ (x : Seen). record x { lost = lost_count r.happened; entries_at_lost = length r.happened })
     (sym rs.seen_is) in
-    let look : Follows (with_reader kept i (record k { seen = seen_lost r })) config peer
+    let look : Follows (with_reader kept i (record k { seen = seen_lost r })) roster peer
     (event.Call (call.GetSampleLost (suc i))) (silent (SampleLost status)) =
-    looked (call.GetSampleLost (suc i)) kept i k (SampleLost status) (seen_lost r) config peer s at
+    looked (call.GetSampleLost (suc i)) kept i k (SampleLost status) (seen_lost r) roster peer s at
     (record {
       answers =
-          answered_as _ (SampleLost (lost_at r)) _ peer.part _ (known_reader kept i config peer s lt)
+          answered_as _ (SampleLost (lost_at r)) _ peer.part _ (known_reader kept i roster peer s lt)
           (ap SampleLost answer);
       effect = refl;
     }) in
     let now : record k { seen = seen_lost r } ≡ k' = sym (after ∙ ap (λ (x : Seen). record k { seen = x }) same) in
-    subst (λ (x : ReaderKept). Follows (with_reader kept i x) config peer (event.Call (call.GetSampleLost reader))
+    subst (λ (x : ReaderKept). Follows (with_reader kept i x) roster peer (event.Call (call.GetSampleLost reader))
     (silent (SampleLost status))) now
-    (subst (λ (n : ℕ). Follows (with_reader kept i (record k { seen = seen_lost r })) config peer
+    (subst (λ (n : ℕ). Follows (with_reader kept i (record k { seen = seen_lost r })) roster peer
     (event.Call (call.GetSampleLost n)) (silent (SampleLost status))) (number_is reader i is) look)
 
 -- a look at LIVELINESS_CHANGED
 pub looked_at_liveliness : (kept : PeerKept) (reader i : ℕ) (k k' : ReaderKept) (status : LivelinessChangedStatus)
-    (seen : Seen) (config : Config)
-    (peer : Peer) → StandsFor kept config peer → reader ≡ i + 1 → i < length kept.readers
+    (seen : Seen) (roster : Roster)
+    (peer : Peer) → StandsFor kept roster peer → reader ≡ i + 1 → i < length kept.readers
     → slice_get kept.readers i ≡ Some k → TellsLiveliness k status seen → k' ≡ record k { seen = seen }
-    → Follows (with_reader kept i k') config peer (event.Call (call.GetLivelinessChanged reader))
+    → Follows (with_reader kept i k') roster peer (event.Call (call.GetLivelinessChanged reader))
     (silent (LivelinessChanged status))
-looked_at_liveliness kept reader i k k' status seen config peer s is lt at tells after =
+looked_at_liveliness kept reader i k k' status seen roster peer s is lt at tells after =
     let r : Reader = own_reader peer.part (suc i) in
     let rs = s.readers.each i k at in
     let told = tells r.happened rs.holds in
@@ -121,18 +121,18 @@ looked_at_liveliness kept reader i k k' status seen config peer s is lt at tells
       not_alive = not_alive_count r.qos r.happened;
       entries_at_turn = length r.happened;
     }) (sym rs.seen_is)) in
-    let look : Follows (with_reader kept i (record k { seen = seen_liveliness r })) config peer
+    let look : Follows (with_reader kept i (record k { seen = seen_liveliness r })) roster peer
     (event.Call (call.GetLivelinessChanged (suc i))) (silent (LivelinessChanged status)) =
-    looked (call.GetLivelinessChanged (suc i)) kept i k (LivelinessChanged status) (seen_liveliness r) config peer s at
+    looked (call.GetLivelinessChanged (suc i)) kept i k (LivelinessChanged status) (seen_liveliness r) roster peer s at
     (record {
       answers =
-          answered_as _ (LivelinessChanged (liveliness_at r)) _ peer.part _ (known_reader kept i config peer s lt)
+          answered_as _ (LivelinessChanged (liveliness_at r)) _ peer.part _ (known_reader kept i roster peer s lt)
           (ap LivelinessChanged answer);
       effect = refl;
     }) in
     let now : record k { seen = seen_liveliness r } ≡ k' =
     sym (after ∙ ap (λ (x : Seen). record k { seen = x }) same) in
-    subst (λ (x : ReaderKept). Follows (with_reader kept i x) config peer
+    subst (λ (x : ReaderKept). Follows (with_reader kept i x) roster peer
     (event.Call (call.GetLivelinessChanged reader)) (silent (LivelinessChanged status))) now
-    (subst (λ (n : ℕ). Follows (with_reader kept i (record k { seen = seen_liveliness r })) config peer
+    (subst (λ (n : ℕ). Follows (with_reader kept i (record k { seen = seen_liveliness r })) roster peer
     (event.Call (call.GetLivelinessChanged n)) (silent (LivelinessChanged status))) (number_is reader i is) look)

@@ -6,8 +6,7 @@ use Rattle.std.proofs.lemmas.Option.{slice_get-get_or}
 use Rattle.dds_base.specs.declared.change.Change.{Change}
 use Rattle.dds_base.specs.declared.change.ChangeKind.{ChangeKind}
 use Rattle.dds_base.specs.declared.code.Code.{Code}
-use Rattle.dds_base.specs.declared.config.Config.{Config}
-use Rattle.dds_base.specs.declared.config.WriterConfig.{WriterConfig}
+use Rattle.dds_protocol.specs.Roster.{Roster}
 use Rattle.dds_base.specs.declared.guid.EntityId.{EntityId}
 use Rattle.dds_base.specs.declared.key.Key.{Key}
 use Rattle.dds_base.specs.Kept.{change_at, append_refusal}
@@ -25,16 +24,14 @@ use Rattle.dds_machine.specs.Calls.{with_written}
 use Rattle.dds_protocol.specs.Claims.{IsWriter}
 use Rattle.dds_protocol.specs.Peer.{Peer}
 use Rattle.dds_protocol.specs.DueMessages.{AreSent, changes_due}
-use Rattle.dds_protocol.proofs.OwnGuids.{one_writer}
+use Rattle.dds_protocol.proofs.OneName.{one_writer}
 use Rattle.dds_protocol.specs.Contact.{Contact}
 use Rattle.dds_ends.specs.declared.matching.Destination.{Destination}
 use Rattle.dds_ends.specs.declared.sending.Sender.{Sender}
 use Rattle.dds_ends.specs.Kept.{WriterKept}
 use Rattle.dds_core.specs.Kept.{PeerKept}
 use Rattle.dds_ends.specs.Identity.{WriterIdentity, writer_identity, IsWriterOf}
-use Rattle.dds_core.specs.Identity.{identity_of, IsPeerOf}
 use Rattle.dds_core.specs.Making.{IsMade, IsNotMade, IsValueOf, entered}
-use Rattle.dds_ends.specs.MatchedEnds.{AreMatchedNow}
 use Rattle.dds_core.specs.Sending.{SendsChange}
 use Rattle.dds_ends.specs.Announcing.{AreAnnouncements}
 use Rattle.dds_ends.specs.Standing.{WriterStands}
@@ -45,7 +42,7 @@ use Rattle.dds_core.proofs.ChangesDue.{change_sent}
 use Rattle.dds_core.proofs.Ends.{with_writer, own_writer_stepped, unchanged_with}
 use Rattle.dds_core.proofs.Tellable.{tellable_entered}
 use Rattle.dds_ends.proofs.Lists.{get-within}
-use Rattle.dds_core.proofs.Names.{configured}
+use Rattle.dds_core.proofs.Names.{own_end, own_writer_is}
 use Rattle.dds_core.proofs.Sent.{IsOnly, IsThere, sends_change, sent_true}
 
 -- the writer of this index, as the peer that is open has it
@@ -72,32 +69,6 @@ set_get [] i x y at = absurd cc
 set_get (a ∷ xs) zero x y at = refl
 set_get (a ∷ xs) (suc i) x y at = set_get xs i x y at
 
--- a peer's own writer, as the configuration has it, with those that it is matched with now
-pub record IsOwnWriter (config : Config) (kept : PeerKept) (number i : ℕ) (k : WriterKept) : Type 0 where
-  pub end : WriterConfig
-  pub is : IsWriterOf config.peers end (writer_identity k)
-  pub from : IsWriter config kept.prefix k.entity (record { peer = number; number = suc i })
-  pub same_topic : from.end.topic ≡ end.topic
-
-pub own_writer_is : (config : Config) (number : ℕ) (kept : PeerKept) (is : IsPeerOf config number (identity_of kept))
-    (i : ℕ) (k : WriterKept) → slice_get kept.writers i ≡ Some k → IsOwnWriter config kept number i k
-own_writer_is config number kept is i k at =
-    let c = configured config number kept is i k at in
-    let index : suc i - 1 ≡ i = omega arith in
-    record {
-      end = c.end;
-      is = c.is;
-      from = record {
-        peer = is.own;
-        at_peer = is.at;
-        same_prefix = sym is.prefix;
-        end = c.end;
-        at_writer = (omega arith, subst (λ (m : ℕ). slice_get is.own.writers m ≡ Some c.end) (sym index) c.at);
-        same_entity = sym c.is.entity;
-      };
-      same_topic = refl;
-    }
-
 abbrev pub made_by : ChangeKind → Key → List ℕ → ℕ → Option ℤ → Change
 made_by kind key value moment strength =
     record { kind = kind; key = key; value = value; source_timestamp = moment; strength = strength }
@@ -109,10 +80,10 @@ Carries k strength =
 
 -- it is the change that a call of the writer of this index makes
 made_is : (old : PeerKept) (i : ℕ) (k : WriterKept) (kind : ChangeKind) (key : Key) (value : List ℕ)
-    (strength : Option ℤ) (config : Config) (peer : Peer) → StandsFor old config peer
+    (strength : Option ℤ) (roster : Roster) (peer : Peer) → StandsFor old roster peer
     → slice_get old.writers i ≡ Some k → Carries k strength
     → made_by kind key value old.moment strength ≡ change_made peer.part (suc i) kind key value
-made_is old i k kind key value strength config peer s at carries =
+made_is old i k kind key value strength roster peer s at carries =
     ap (λ (m : ℕ). made_by kind key value m strength) (sym s.moment)
     ∙ ap (λ (z : Option ℤ). made_by kind key value peer.part.dds.moment z)
     (carries (own_writer peer.part (suc i)) (peer.known.answered (suc i)) (s.writers.each i k at))
@@ -125,23 +96,23 @@ Announces old k change number packets =
 
 -- the change is made
 made_there : (old : PeerKept) (i : ℕ) (k k' : WriterKept) (kind : ChangeKind) (key : Key) (value : List ℕ)
-    (strength : Option ℤ) (number : ℕ) (output : Output) (config : Config) (peer : Peer) → StandsFor old config peer
+    (strength : Option ℤ) (number : ℕ) (output : Output) (roster : Roster) (peer : Peer) → StandsFor old roster peer
     → slice_get old.writers i ≡ Some k → Enters k (Changed (made_by kind key value old.moment strength)) k'
     → ((w : Writer) (answered : Endpoint → Contact) → WriterStands k w answered
     → (append_refusal (history_of w) (made_by kind key value old.moment strength) ≡ None)
     × (number ≡ length (writer_changes w) + 1)) → IsValueOf kind value
     → output.reply ≡ Done → length output.packets + output.unsent ≡ length k.destinations
     → Announces old k (made_by kind key value old.moment strength) number output.packets
-    → IsMade config peer (suc i) (made_by kind key value old.moment strength) output (with_writer old i k')
-made_there old i k k' kind key value strength number output config peer s at enters accepts valued reply counts announces =
+    → IsMade roster peer (suc i) (made_by kind key value old.moment strength) output (with_writer old i k')
+made_there old i k k' kind key value strength number output roster peer s at enters accepts valued reply counts announces =
     let change : Change = made_by kind key value old.moment strength in
     let w : Writer = own_writer peer.part (suc i) in
     let ws : WriterStands k w (peer.known.answered (suc i)) = s.writers.each i k at in
     let a = accepts w (peer.known.answered (suc i)) ws in
     let new : PeerKept = with_writer old i k' in
     let after : Peer = record peer { part = entered peer.part (suc i) change } in
-    let stands : StandsFor new config after =
-    own_writer_stepped old i k k' (Changed change) config peer s at enters
+    let stands : StandsFor new roster after =
+    own_writer_stepped old i k k' (Changed change) roster peer s at enters
     (tellable_entered peer (suc i) (Changed change) s.tellable (record { empty = valued; early = s.early })) in
     let at_new : slice_get new.writers i ≡ Some k' = set_get old.writers i k k' at in
     let ends : k'.destinations ≡ k.destinations = ap (λ (x : WriterIdentity). x.destinations) enters.same in
@@ -153,33 +124,31 @@ made_there old i k k' kind key value strength number output config peer s at ent
     (subst (λ (e : EntityId). AreAnnouncements (record { prefix = old.prefix; entity = e; moment = old.moment }) number
     (content_of change) k.destinations output.packets)
     (sym (ap (λ (x : WriterIdentity). x.entity) enters.same)) announces) in
-    let own : IsOwnWriter config new peer.number i k' =
-    own_writer_is config peer.number new stands.is_peer i k' at_new in
-    let endpoint : Endpoint = record { peer = peer.number; number = suc i } in
+    let own : IsWriterOf roster (own_end peer.number i) (writer_identity k') =
+    own_writer_is roster peer.number new stands.is_peer i k' at_new in
+    let endpoint : Endpoint = own_end peer.number i in
+    let from : IsWriter roster old.prefix k'.entity endpoint =
+    record { same_prefix = s.is_peer.prefix; at_writer = own.entity } in
     let means : change_in (content_of change) old.moment ≡ change = change_in-content_of change valued in
     let index : 1 + i ≡ suc i = omega arith in
-    let named' : IsNamed config peer.number old.prefix (suc i) k' w =
-    named_again config peer.number old.prefix (suc i) k k' w enters.same
-    (subst (λ (n : ℕ). IsNamed config peer.number old.prefix n k w) index (named config peer old s i k at)) in
-    let matched : AreMatchedNow config.peers own.from.end.topic k'.matched k'.destinations k'.readers =
-    subst (λ (t : ℕ). AreMatchedNow config.peers t k'.matched k'.destinations k'.readers) (sym own.same_topic)
-    own.is.ends in
-    let due : AreSent (changes_due config endpoint w.matched number change) output.packets output.unsent =
-    change_sent config peer.number old.prefix
+    let named' : IsNamed roster peer.number old.prefix (suc i) k' w =
+    named_again roster peer.number old.prefix (suc i) k k' w enters.same
+    (subst (λ (n : ℕ). IsNamed roster peer.number old.prefix n k w) index (named roster peer old s i k at)) in
+    let due : AreSent (changes_due roster endpoint w.matched number change) output.packets output.unsent =
+    change_sent roster peer.number old.prefix
     (suc i) number k' w change output.packets output.unsent named' are counted in
-    let sends : SendsChange config endpoint w.matched number (change_in (content_of change) old.moment) output =
-    subst (λ (es : List Endpoint). SendsChange config endpoint es number (change_in (content_of change) old.moment)
+    let sends : SendsChange roster endpoint w.matched number (change_in (content_of change) old.moment) output =
+    subst (λ (es : List Endpoint). SendsChange roster endpoint es number (change_in (content_of change) old.moment)
     output) (sym named'.matched)
-    (sends_change config sender endpoint own.from.end.topic k'.matched k'.destinations k'.readers number
-    (content_of change) output
-    (record { from = own.from; same_topic = refl }) matched s.early are counted
+    (sends_change roster sender endpoint k'.matched k'.destinations k'.readers number (content_of change) output from
+    own.ends s.early are counted
     (subst (λ (es : List Endpoint). AreSent
-    (changes_due config endpoint es number (change_in (content_of change) old.moment)) output.packets output.unsent)
+    (changes_due roster endpoint es number (change_in (content_of change) old.moment)) output.packets output.unsent)
     named'.matched
-    (subst (λ (x : Change). AreSent (changes_due config endpoint w.matched number x) output.packets output.unsent)
+    (subst (λ (x : Change). AreSent (changes_due roster endpoint w.matched number x) output.packets output.unsent)
     (sym means) due))) in
-    let only : IsOnly config sender endpoint =
-    λ e name. one_writer config old.prefix k'.entity e endpoint s.is_peer.roster name own.from
+    let only : IsOnly roster sender endpoint =
+    λ e name. one_writer roster old.prefix k'.entity e endpoint s.is_peer.is_roster name from
     in
     let count = s.writers.count in
     let within : i < length peer.part.rtps.writers =
@@ -193,42 +162,42 @@ made_there old i k k' kind key value strength number output config peer s at ent
     record {
       accepted = a.0;
       reply = reply;
-      sends = subst (λ (n : ℕ). SendsChange config endpoint w.matched n change output) a.1
-          (subst (λ (x : Change). SendsChange config endpoint w.matched number x output) means sends);
+      sends = subst (λ (n : ℕ). SendsChange roster endpoint w.matched n change output) a.1
+          (subst (λ (x : Change). SendsChange roster endpoint w.matched number x output) means sends);
       is_true =
-          λ packet claim among h. sent_true config sender endpoint after.part k'.destinations number
+          λ packet claim among h. sent_true roster sender endpoint after.part k'.destinations number
           (content_of change) output.packets only s.early there are packet claim among h;
       stands = stands;
     }
 
 -- the same, by the moment of the part
 pub made : (old : PeerKept) (i : ℕ) (k k' : WriterKept) (kind : ChangeKind) (key : Key) (value : List ℕ)
-    (strength : Option ℤ) (number : ℕ) (output : Output) (config : Config) (peer : Peer) → StandsFor old config peer
+    (strength : Option ℤ) (number : ℕ) (output : Output) (roster : Roster) (peer : Peer) → StandsFor old roster peer
     → slice_get old.writers i ≡ Some k → Carries k strength → Enters k (Changed (made_by kind key value old.moment strength)) k'
     → ((w : Writer) (answered : Endpoint → Contact) → WriterStands k w answered
     → (append_refusal (history_of w) (made_by kind key value old.moment strength) ≡ None)
     × (number ≡ length (writer_changes w) + 1)) → IsValueOf kind value
     → output.reply ≡ Done → length output.packets + output.unsent ≡ length k.destinations
     → Announces old k (made_by kind key value old.moment strength) number output.packets
-    → IsMade config peer (i + 1) (change_made peer.part (i + 1) kind key value) output (with_writer old i k')
-made old i k k' kind key value strength number output config peer s at carries enters accepts valued reply counts
+    → IsMade roster peer (i + 1) (change_made peer.part (i + 1) kind key value) output (with_writer old i k')
+made old i k k' kind key value strength number output roster peer s at carries enters accepts valued reply counts
     announces =
     let index : i + 1 ≡ suc i = omega arith in
-    subst (λ (n : ℕ). IsMade config peer n (change_made peer.part n kind key value) output (with_writer old i k'))
+    subst (λ (n : ℕ). IsMade roster peer n (change_made peer.part n kind key value) output (with_writer old i k'))
     (sym index)
-    (subst (λ (x : Change). IsMade config peer (suc i) x output (with_writer old i k'))
-    (made_is old i k kind key value strength config peer s at carries)
-    (made_there old i k k' kind key value strength number output config peer s at enters accepts valued reply counts announces))
+    (subst (λ (x : Change). IsMade roster peer (suc i) x output (with_writer old i k'))
+    (made_is old i k kind key value strength roster peer s at carries)
+    (made_there old i k k' kind key value strength number output roster peer s at enters accepts valued reply counts announces))
 
 -- the change is refused before anything is done
 pub not_begun : (old : PeerKept) (i : ℕ) (k : WriterKept) (kind : ChangeKind) (key : Key) (value : List ℕ)
-    (strength : Option ℤ) (code : Code) (output : Output) (config : Config) (peer : Peer) → StandsFor old config peer
+    (strength : Option ℤ) (code : Code) (output : Output) (roster : Roster) (peer : Peer) → StandsFor old roster peer
     → slice_get old.writers i ≡ Some k → Carries k strength
     → ((w : Writer) (answered : Endpoint → Contact) → WriterStands k w answered
     → Refuses (append_refusal (history_of w) (made_by kind key value old.moment strength)) code)
     → output ≡ record { reply = Refused code; packets = []; unsent = 0 }
-    → IsNotMade config peer (i + 1) (change_made peer.part (i + 1) kind key value) output old
-not_begun old i k kind key value strength code output config peer s at carries refuses is =
+    → IsNotMade roster peer (i + 1) (change_made peer.part (i + 1) kind key value) output old
+not_begun old i k kind key value strength code output roster peer s at carries refuses is =
     let index : i + 1 ≡ suc i = omega arith in
     record {
       code = code;
@@ -236,7 +205,7 @@ not_begun old i k kind key value strength code output config peer s at carries r
           subst (λ (n : ℕ). Refuses (change_refusal peer.part n (change_made peer.part n kind key value)) code)
           (sym index)
           (subst (λ (x : Change). Refuses (append_refusal (history_of (own_writer peer.part (suc i))) x) code)
-          (made_is old i k kind key value strength config peer s at carries) (refuses (own_writer peer.part (suc i)) (peer.known.answered (suc i))
+          (made_is old i k kind key value strength roster peer s at carries) (refuses (own_writer peer.part (suc i)) (peer.known.answered (suc i))
           (s.writers.each i k at)));
       output_is = is;
       stands = s;
@@ -244,13 +213,13 @@ not_begun old i k kind key value strength code output config peer s at carries r
 
 -- the same once the history refused it, and left the writer as it was
 pub not_made : (old : PeerKept) (i : ℕ) (k k' : WriterKept) (kind : ChangeKind) (key : Key) (value : List ℕ)
-    (strength : Option ℤ) (code : Code) (output : Output) (config : Config) (peer : Peer) → StandsFor old config peer
+    (strength : Option ℤ) (code : Code) (output : Output) (roster : Roster) (peer : Peer) → StandsFor old roster peer
     → slice_get old.writers i ≡ Some k → Carries k strength → k' ≡ k
     → ((w : Writer) (answered : Endpoint → Contact) → WriterStands k w answered
     → Refuses (append_refusal (history_of w) (made_by kind key value old.moment strength)) code)
     → output ≡ record { reply = Refused code; packets = []; unsent = 0 }
-    → IsNotMade config peer (i + 1) (change_made peer.part (i + 1) kind key value) output (with_writer old i k')
-not_made old i k k' kind key value strength code output config peer s at carries same refuses is =
-    subst (λ (x : PeerKept). IsNotMade config peer (i + 1) (change_made peer.part (i + 1) kind key value) output x)
+    → IsNotMade roster peer (i + 1) (change_made peer.part (i + 1) kind key value) output (with_writer old i k')
+not_made old i k k' kind key value strength code output roster peer s at carries same refuses is =
+    subst (λ (x : PeerKept). IsNotMade roster peer (i + 1) (change_made peer.part (i + 1) kind key value) output x)
     (sym (unchanged_with old i k k' at same))
-    (not_begun old i k kind key value strength code output config peer s at carries refuses is)
+    (not_begun old i k kind key value strength code output roster peer s at carries refuses is)

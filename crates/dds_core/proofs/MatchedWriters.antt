@@ -6,7 +6,7 @@ use Rattle.std.proofs.lemmas.Bool.Decides.{nat_tests}
 use Rattle.std.proofs.lemmas.Option.{same_Some}
 use Rattle.dds_base.specs.declared.code.Code.{Code}
 use Rattle.dds_base.specs.declared.code.Code.TheVariants.{BadParameter, Memory, PreconditionNotMet}
-use Rattle.dds_base.specs.declared.config.Config.{Config}
+use Rattle.dds_protocol.specs.Roster.{Roster}
 use Rattle.dds_base.specs.declared.endpoint.Endpoint.{Endpoint}
 use Rattle.dds_base.specs.declared.happening.Happening.{Happening}
 use Rattle.dds_base.specs.declared.status.MatchedStatus.{MatchedStatus}
@@ -33,9 +33,9 @@ use Rattle.dds_core.specs.Standing.{StandsFor}
 use Rattle.dds_core.proofs.CallSteps.{Follows, answered_as, number_is, refused_call, there_is}
 use Rattle.dds_core.proofs.Ends.{own_reader_changed, own_reader_stepped, with_read, with_reader}
 use Rattle.dds_core.proofs.KnownWriters.{not_known}
-use Rattle.dds_ends.proofs.Lists.{get-map, get-within, set_back}
+use Rattle.dds_ends.proofs.Lists.{get-within, set_back}
 use Rattle.dds_ends.proofs.Parting.{IsMatchedSo, first_among, known_there}
-use Rattle.dds_ends.proofs.Rows.{handle_is, no_row, proxied, writers_of}
+use Rattle.dds_ends.proofs.Rows.{handle_is}
 use Rattle.dds_core.proofs.Taking.{silent}
 
 -- ---- why it is refused
@@ -71,25 +71,25 @@ no_rows rows n count same none =
     both false b f g = f
 
 -- the peer has no such reader
-nobody_known : (kept : PeerKept) (config : Config) (peer : Peer) (reader : ℕ) (writer : Endpoint)
-    → StandsFor kept config peer → is_number reader (length kept.readers) ≡ false
+nobody_known : (kept : PeerKept) (roster : Roster) (peer : Peer) (reader : ℕ) (writer : Endpoint)
+    → StandsFor kept roster peer → is_number reader (length kept.readers) ≡ false
     → is_known (own_proxies peer.part reader) writer ≡ false
-nobody_known kept config peer reader writer s none =
+nobody_known kept roster peer reader writer s none =
     ap (λ (rows : List WriterProxy). is_known rows writer)
     (no_rows peer.part.rtps.readers reader (length kept.readers) s.readers.rows none)
 
 -- ---- the reader of an index, which is told of the writer of a row
 
 -- the peer's reader of this number is kept at this index, and the writer stands in this row of it
-record IsAt (kept : PeerKept) (config : Config) (peer : Peer) (reader i row : ℕ) (k : ReaderKept) (writer : Endpoint)
+record IsAt (kept : PeerKept) (roster : Roster) (peer : Peer) (reader i row : ℕ) (k : ReaderKept) (writer : Endpoint)
     : Type 0 where
-  stands : StandsFor kept config peer
+  stands : StandsFor kept roster peer
   number : reader ≡ i + 1
   at : slice_get kept.readers i ≡ Some k
   first : IsFirstRow k.writers writer row
 
-module _ {kept : PeerKept} {config : Config} {peer : Peer} {reader i row : ℕ} {k : ReaderKept} {writer : Endpoint}
-    (a : IsAt kept config peer reader i row k writer) where
+module _ {kept : PeerKept} {roster : Roster} {peer : Peer} {reader i row : ℕ} {k : ReaderKept} {writer : Endpoint}
+    (a : IsAt kept roster peer reader i row k writer) where
   stood_there : ReaderStands k (own_proxies peer.part reader) (own_reader peer.part reader)
       (λ w. peer.known.tracked w reader)
   stood_there =
@@ -111,18 +111,18 @@ module _ {kept : PeerKept} {config : Config} {peer : Peer} {reader i row : ℕ} 
   -- it has become another one
   put_there : (k' : ReaderKept) (proxies : List WriterProxy) (r : Reader) → reader_identity k' ≡ reader_identity k
       → ReaderStands k' proxies r (λ w. peer.known.tracked w reader)
-      → StandsFor (with_reader kept i k') config (record peer { part = with_read peer.part reader proxies r })
+      → StandsFor (with_reader kept i k') roster (record peer { part = with_read peer.part reader proxies r })
   put_there k' proxies r same now =
-      subst (λ (n : ℕ). StandsFor (with_reader kept i k') config
+      subst (λ (n : ℕ). StandsFor (with_reader kept i k') roster
       (record peer { part = with_read peer.part n proxies r })) number
-      (own_reader_stepped kept i k k' proxies r peer.known config peer a.stands a.at same refl (λ w n apart. refl)
+      (own_reader_stepped kept i k k' proxies r peer.known roster peer a.stands a.at same refl (λ w n apart. refl)
       (subst (λ (n : ℕ). ReaderStands k' proxies r (λ w. peer.known.tracked w n)) (sym number) now))
     where
       number : suc i ≡ reader
       number = number_is reader i a.number
 
-module _ {kept : PeerKept} {config : Config} {peer : Peer} {reader i row : ℕ} {k : ReaderKept} {writer : Endpoint}
-    (met : Bool) (is : IsMatchedSo k row met) (a : IsAt kept config peer reader i row k writer) where
+module _ {kept : PeerKept} {roster : Roster} {peer : Peer} {reader i row : ℕ} {k : ReaderKept} {writer : Endpoint}
+    (met : Bool) (is : IsMatchedSo k row met) (a : IsAt kept roster peer reader i row k writer) where
   met_there : met ≡ is_attached (how_of (own_proxies peer.part reader) writer)
   met_there =
       is writer (own_proxies peer.part reader) (own_reader peer.part reader) (λ w. peer.known.tracked w reader) a.first
@@ -131,70 +131,70 @@ module _ {kept : PeerKept} {config : Config} {peer : Peer} {reader i row : ℕ} 
 -- ---- the calls
 
 -- the peer has no such reader
-pub no_reader_matched : (kept : PeerKept) (config : Config) (peer : Peer) (reader : ℕ) (writer : Endpoint)
-    → StandsFor kept config peer → is_number reader (length kept.readers) ≡ false
-    → Follows kept config peer (event.Call (call.MatchWriter reader writer)) (silent (Refused BadParameter))
-no_reader_matched kept config peer reader writer s none =
-    refused_call kept config peer s (call.MatchWriter reader writer) BadParameter (
+pub no_reader_matched : (kept : PeerKept) (roster : Roster) (peer : Peer) (reader : ℕ) (writer : Endpoint)
+    → StandsFor kept roster peer → is_number reader (length kept.readers) ≡ false
+    → Follows kept roster peer (event.Call (call.MatchWriter reader writer)) (silent (Refused BadParameter))
+no_reader_matched kept roster peer reader writer s none =
+    refused_call kept roster peer s (call.MatchWriter reader writer) BadParameter (
       subst (λ (o : Option Code). Refuses o BadParameter)
-          (sym (refused_unknown _ _ (nobody_known kept config peer reader writer s none))) refl,
+          (sym (refused_unknown _ _ (nobody_known kept roster peer reader writer s none))) refl,
       λ memory. absurd cc,
       refl,
     )
 
-pub no_reader_unmatched : (kept : PeerKept) (config : Config) (peer : Peer) (reader : ℕ) (writer : Endpoint)
-    → StandsFor kept config peer → is_number reader (length kept.readers) ≡ false
-    → Follows kept config peer (event.Call (call.UnmatchWriter reader writer)) (silent (Refused BadParameter))
-no_reader_unmatched kept config peer reader writer s none =
-    refused_call kept config peer s (call.UnmatchWriter reader writer) BadParameter (
+pub no_reader_unmatched : (kept : PeerKept) (roster : Roster) (peer : Peer) (reader : ℕ) (writer : Endpoint)
+    → StandsFor kept roster peer → is_number reader (length kept.readers) ≡ false
+    → Follows kept roster peer (event.Call (call.UnmatchWriter reader writer)) (silent (Refused BadParameter))
+no_reader_unmatched kept roster peer reader writer s none =
+    refused_call kept roster peer s (call.UnmatchWriter reader writer) BadParameter (
       subst (λ (o : Option Code). Refuses o BadParameter)
-          (sym (refused_unknown _ _ (nobody_known kept config peer reader writer s none))) refl,
+          (sym (refused_unknown _ _ (nobody_known kept roster peer reader writer s none))) refl,
       λ memory. absurd cc,
       refl,
     )
 
--- the writer is none of the reader's topic
-not_known_there : (kept : PeerKept) (config : Config) (peer : Peer) (reader i : ℕ) (k : ReaderKept) (writer : Endpoint)
-    → StandsFor kept config peer → reader ≡ i + 1 → slice_get kept.readers i ≡ Some k
+-- the writer is none that the reader knows
+not_known_there : (kept : PeerKept) (roster : Roster) (peer : Peer) (reader i : ℕ) (k : ReaderKept) (writer : Endpoint)
+    → StandsFor kept roster peer → reader ≡ i + 1 → slice_get kept.readers i ≡ Some k
     → ((j : ℕ) (n : WriterName) → slice_get k.writers j ≡ Some n → n.writer ≡ writer → ⊥)
     → is_known (own_proxies peer.part reader) writer ≡ false
-not_known_there kept config peer reader i k writer s is at none =
+not_known_there kept roster peer reader i k writer s is at none =
     subst (λ (n : ℕ). is_known (own_proxies peer.part n) writer ≡ false) (number_is reader i is)
     (not_known (own_proxies peer.part (suc i)) k.writers writer (s.readers.each i k at).writers_are none)
 
-pub no_writer_matched : (kept : PeerKept) (config : Config) (peer : Peer) (reader i : ℕ) (k : ReaderKept)
-    (writer : Endpoint) → StandsFor kept config peer → reader ≡ i + 1 → slice_get kept.readers i ≡ Some k
+pub no_writer_matched : (kept : PeerKept) (roster : Roster) (peer : Peer) (reader i : ℕ) (k : ReaderKept)
+    (writer : Endpoint) → StandsFor kept roster peer → reader ≡ i + 1 → slice_get kept.readers i ≡ Some k
     → ((j : ℕ) (n : WriterName) → slice_get k.writers j ≡ Some n → n.writer ≡ writer → ⊥)
-    → Follows kept config peer (event.Call (call.MatchWriter reader writer)) (silent (Refused BadParameter))
-no_writer_matched kept config peer reader i k writer s is at none =
-    refused_call kept config peer s (call.MatchWriter reader writer) BadParameter (
+    → Follows kept roster peer (event.Call (call.MatchWriter reader writer)) (silent (Refused BadParameter))
+no_writer_matched kept roster peer reader i k writer s is at none =
+    refused_call kept roster peer s (call.MatchWriter reader writer) BadParameter (
       subst (λ (o : Option Code). Refuses o BadParameter)
-          (sym (refused_unknown _ _ (not_known_there kept config peer reader i k writer s is at none))) refl,
+          (sym (refused_unknown _ _ (not_known_there kept roster peer reader i k writer s is at none))) refl,
       λ memory. absurd cc,
       refl,
     )
 
-pub no_writer_unmatched : (kept : PeerKept) (config : Config) (peer : Peer) (reader i : ℕ) (k : ReaderKept)
-    (writer : Endpoint) → StandsFor kept config peer → reader ≡ i + 1 → slice_get kept.readers i ≡ Some k
+pub no_writer_unmatched : (kept : PeerKept) (roster : Roster) (peer : Peer) (reader i : ℕ) (k : ReaderKept)
+    (writer : Endpoint) → StandsFor kept roster peer → reader ≡ i + 1 → slice_get kept.readers i ≡ Some k
     → ((j : ℕ) (n : WriterName) → slice_get k.writers j ≡ Some n → n.writer ≡ writer → ⊥)
-    → Follows kept config peer (event.Call (call.UnmatchWriter reader writer)) (silent (Refused BadParameter))
-no_writer_unmatched kept config peer reader i k writer s is at none =
-    refused_call kept config peer s (call.UnmatchWriter reader writer) BadParameter (
+    → Follows kept roster peer (event.Call (call.UnmatchWriter reader writer)) (silent (Refused BadParameter))
+no_writer_unmatched kept roster peer reader i k writer s is at none =
+    refused_call kept roster peer s (call.UnmatchWriter reader writer) BadParameter (
       subst (λ (o : Option Code). Refuses o BadParameter)
-          (sym (refused_unknown _ _ (not_known_there kept config peer reader i k writer s is at none))) refl,
+          (sym (refused_unknown _ _ (not_known_there kept roster peer reader i k writer s is at none))) refl,
       λ memory. absurd cc,
       refl,
     )
 
 -- the two are matched already
-pub matched_already : (kept : PeerKept) (config : Config) (peer : Peer) (reader i row : ℕ) (k : ReaderKept)
-    (writer : Endpoint) (met : Bool) → StandsFor kept config peer → reader ≡ i + 1 → slice_get kept.readers i ≡ Some k
+pub matched_already : (kept : PeerKept) (roster : Roster) (peer : Peer) (reader i row : ℕ) (k : ReaderKept)
+    (writer : Endpoint) (met : Bool) → StandsFor kept roster peer → reader ≡ i + 1 → slice_get kept.readers i ≡ Some k
     → IsFirstRow k.writers writer row → IsMatchedSo k row met → met ≡ true
-    → Follows kept config peer (event.Call (call.MatchWriter reader writer)) (silent (Refused PreconditionNotMet))
-matched_already kept config peer reader i row k writer met s number at first is met_is =
-    let a : IsAt kept config peer reader i row k writer =
+    → Follows kept roster peer (event.Call (call.MatchWriter reader writer)) (silent (Refused PreconditionNotMet))
+matched_already kept roster peer reader i row k writer met s number at first is met_is =
+    let a : IsAt kept roster peer reader i row k writer =
     record { stands = s; number = number; at = at; first = first } in
-    refused_call kept config peer s (call.MatchWriter reader writer) PreconditionNotMet (
+    refused_call kept roster peer s (call.MatchWriter reader writer) PreconditionNotMet (
       subst (λ (o : Option Code). Refuses o PreconditionNotMet)
           (sym (refused_twice _ _ (is_known_there a) (sym (met_there met is a) ∙ met_is))) refl,
       λ memory. absurd cc,
@@ -202,14 +202,14 @@ matched_already kept config peer reader i row k writer met s number at first is 
     )
 
 -- the two are not matched
-pub unmatched_already : (kept : PeerKept) (config : Config) (peer : Peer) (reader i row : ℕ) (k : ReaderKept)
-    (writer : Endpoint) (met : Bool) → StandsFor kept config peer → reader ≡ i + 1 → slice_get kept.readers i ≡ Some k
+pub unmatched_already : (kept : PeerKept) (roster : Roster) (peer : Peer) (reader i row : ℕ) (k : ReaderKept)
+    (writer : Endpoint) (met : Bool) → StandsFor kept roster peer → reader ≡ i + 1 → slice_get kept.readers i ≡ Some k
     → IsFirstRow k.writers writer row → IsMatchedSo k row met → met ≡ false
-    → Follows kept config peer (event.Call (call.UnmatchWriter reader writer)) (silent (Refused PreconditionNotMet))
-unmatched_already kept config peer reader i row k writer met s number at first is met_is =
-    let a : IsAt kept config peer reader i row k writer =
+    → Follows kept roster peer (event.Call (call.UnmatchWriter reader writer)) (silent (Refused PreconditionNotMet))
+unmatched_already kept roster peer reader i row k writer met s number at first is met_is =
+    let a : IsAt kept roster peer reader i row k writer =
     record { stands = s; number = number; at = at; first = first } in
-    refused_call kept config peer s (call.UnmatchWriter reader writer) PreconditionNotMet (
+    refused_call kept roster peer s (call.UnmatchWriter reader writer) PreconditionNotMet (
       subst (λ (o : Option Code). Refuses o PreconditionNotMet)
           (sym (refused_twice _ _ (is_known_there a)
           (ap (λ (b : Bool). not b) (sym (met_there met is a) ∙ met_is)))) refl,
@@ -218,14 +218,14 @@ unmatched_already kept config peer reader i row k writer met s number at first i
     )
 
 -- the two are matched from now on
-pub matches_writer : (kept : PeerKept) (config : Config) (peer : Peer) (reader i row : ℕ) (k k' : ReaderKept)
-    (writer : Endpoint) (met : Bool) (handle : ℕ) → StandsFor kept config peer → reader ≡ i + 1
+pub matches_writer : (kept : PeerKept) (roster : Roster) (peer : Peer) (reader i row : ℕ) (k k' : ReaderKept)
+    (writer : Endpoint) (met : Bool) (handle : ℕ) → StandsFor kept roster peer → reader ≡ i + 1
     → slice_get kept.readers i ≡ Some k → IsFirstRow k.writers writer row → IsMatchedSo k row met → met ≡ false
     → Attaches k row k' → handle ≡ row + 1
-    → Follows (with_reader kept i k') config peer (event.Call (call.MatchWriter reader writer))
+    → Follows (with_reader kept i k') roster peer (event.Call (call.MatchWriter reader writer))
     (silent (InstanceHandle handle))
-matches_writer kept config peer reader i row k k' writer met handle s number at first is met_is attaches same =
-    let a : IsAt kept config peer reader i row k writer =
+matches_writer kept roster peer reader i row k k' writer met handle s number at first is met_is attaches same =
+    let a : IsAt kept roster peer reader i row k writer =
     record { stands = s; number = number; at = at; first = first } in
     let rows : List WriterProxy = own_proxies peer.part reader in
     let r : Reader = own_reader peer.part reader in (
@@ -252,13 +252,13 @@ matches_writer kept config peer reader i row k k' writer met handle s number at 
     )
 
 -- the two are matched no longer
-pub unmatches_writer : (kept : PeerKept) (config : Config) (peer : Peer) (reader i row : ℕ) (k k' : ReaderKept)
-    (writer : Endpoint) (met : Bool) → StandsFor kept config peer → reader ≡ i + 1
+pub unmatches_writer : (kept : PeerKept) (roster : Roster) (peer : Peer) (reader i row : ℕ) (k k' : ReaderKept)
+    (writer : Endpoint) (met : Bool) → StandsFor kept roster peer → reader ≡ i + 1
     → slice_get kept.readers i ≡ Some k → IsFirstRow k.writers writer row → IsMatchedSo k row met → met ≡ true
     → Detaches k row kept.moment k'
-    → Follows (with_reader kept i k') config peer (event.Call (call.UnmatchWriter reader writer)) (silent Done)
-unmatches_writer kept config peer reader i row k k' writer met s number at first is met_is detaches =
-    let a : IsAt kept config peer reader i row k writer =
+    → Follows (with_reader kept i k') roster peer (event.Call (call.UnmatchWriter reader writer)) (silent Done)
+unmatches_writer kept roster peer reader i row k k' writer met s number at first is met_is detaches =
+    let a : IsAt kept roster peer reader i row k writer =
     record { stands = s; number = number; at = at; first = first } in
     let rows : List WriterProxy = own_proxies peer.part reader in
     let r : Reader = own_reader peer.part reader in
@@ -288,21 +288,21 @@ unmatches_writer kept config peer reader i row k k' writer met s number at first
     )
 
 -- more would have happened than can be counted
-pub unmatched_past : (kept : PeerKept) (config : Config) (peer : Peer) (reader i row : ℕ) (k k' : ReaderKept)
-    (writer : Endpoint) (met : Bool) (code : Code) → StandsFor kept config peer → reader ≡ i + 1
+pub unmatched_past : (kept : PeerKept) (roster : Roster) (peer : Peer) (reader i row : ℕ) (k k' : ReaderKept)
+    (writer : Endpoint) (met : Bool) (code : Code) → StandsFor kept roster peer → reader ≡ i + 1
     → slice_get kept.readers i ≡ Some k → IsFirstRow k.writers writer row → IsMatchedSo k row met → met ≡ true
     → k' ≡ k → IsPastParting k row kept.moment → code ≡ Memory
-    → Follows (with_reader kept i k') config peer (event.Call (call.UnmatchWriter reader writer))
+    → Follows (with_reader kept i k') roster peer (event.Call (call.UnmatchWriter reader writer))
     (silent (Refused code))
-unmatched_past kept config peer reader i row k k' writer met code s number at first is met_is back past memory =
-    let a : IsAt kept config peer reader i row k writer =
+unmatched_past kept roster peer reader i row k k' writer met code s number at first is met_is back past memory =
+    let a : IsAt kept roster peer reader i row k writer =
     record { stands = s; number = number; at = at; first = first } in
     let rows : List WriterProxy = own_proxies peer.part reader in
     let r : Reader = own_reader peer.part reader in
-    subst (λ (rs : List ReaderKept). Follows (record kept { readers = rs }) config peer
+    subst (λ (rs : List ReaderKept). Follows (record kept { readers = rs }) roster peer
     (event.Call (call.UnmatchWriter reader writer)) (silent (Refused code)))
     (sym (set_back kept.readers i k k' at back))
-    (refused_call kept config peer s (call.UnmatchWriter reader writer) code (
+    (refused_call kept roster peer s (call.UnmatchWriter reader writer) code (
       subst (λ (o : Option Code). Refuses o code)
           (sym (not_refused _ _ (is_known_there a) (ap (λ (b : Bool). not b) (sym (met_there met is a) ∙ met_is))))
           memory,
@@ -313,13 +313,13 @@ unmatched_past kept config peer reader i row k k' writer met code s number at fi
     ))
 
 -- a look at SUBSCRIPTION_MATCHED of the reader of this index
-pub looked_at_matches : (kept : PeerKept) (reader i : ℕ) (k k' : ReaderKept) (status : MatchedStatus) (config : Config)
-    (peer : Peer) → StandsFor kept config peer → reader ≡ i + 1 → slice_get kept.readers i ≡ Some k
+pub looked_at_matches : (kept : PeerKept) (reader i : ℕ) (k k' : ReaderKept) (status : MatchedStatus) (roster : Roster)
+    (peer : Peer) → StandsFor kept roster peer → reader ≡ i + 1 → slice_get kept.readers i ≡ Some k
     → TellsMatches k status → SeesMatches k k'
-    → Follows (with_reader kept i k') config peer (event.Call (call.GetSubscriptionMatched reader))
+    → Follows (with_reader kept i k') roster peer (event.Call (call.GetSubscriptionMatched reader))
     (silent (Matched status))
-looked_at_matches kept reader i k k' status config peer s number at tells sees =
-    subst (λ (n : ℕ). Follows (with_reader kept i k') config peer (event.Call (call.GetSubscriptionMatched n))
+looked_at_matches kept reader i k k' status roster peer s number at tells sees =
+    subst (λ (n : ℕ). Follows (with_reader kept i k') roster peer (event.Call (call.GetSubscriptionMatched n))
     (silent (Matched status))) (number_is reader i number) (
       record peer { part = record peer.part { dds = after_matches_look peer.part (suc i) } },
       record {
@@ -335,7 +335,7 @@ looked_at_matches kept reader i k k' status config peer s number at tells sees =
         );
         sent = λ p x m h. absurd (omega (arith, m.1));
       },
-      own_reader_changed kept i k k' (reader_looked_at rows r) config peer s at sees.same
+      own_reader_changed kept i k k' (reader_looked_at rows r) roster peer s at sees.same
           (sees.stands rows r (λ w. peer.known.tracked w (suc i)) (s.readers.each i k at)),
     )
   where
@@ -360,20 +360,20 @@ looked_at_matches kept reader i k k' status config peer s number at tells sees =
 -- the peer's reader of this number says so of the writer of a row
 pub met_as_told : (kept : PeerKept) (reader i row : ℕ) (k : ReaderKept) (writer : Endpoint) (met : Bool)
     → reader ≡ i + 1 → slice_get kept.readers i ≡ Some k → IsFirstRow k.writers writer row → IsMatchedSo k row met
-    → (config : Config) (peer : Peer) → StandsFor kept config peer
+    → (roster : Roster) (peer : Peer) → StandsFor kept roster peer
     → met ≡ is_attached (how_of (own_proxies peer.part reader) writer)
-met_as_told kept reader i row k writer met number at first is config peer s =
+met_as_told kept reader i row k writer met number at first is roster peer s =
     met_there met is (record { stands = s; number = number; at = at; first = first })
 
--- a writer that is none of its topic
+-- a writer that it does not know
 pub met_by_none : (kept : PeerKept) (reader i : ℕ) (k : ReaderKept) (writer : Endpoint) → reader ≡ i + 1
     → slice_get kept.readers i ≡ Some k
     → ((j : ℕ) (n : WriterName) → slice_get k.writers j ≡ Some n → n.writer ≡ writer → ⊥)
-    → (config : Config) (peer : Peer) → StandsFor kept config peer
+    → (roster : Roster) (peer : Peer) → StandsFor kept roster peer
     → false ≡ is_attached (how_of (own_proxies peer.part reader) writer)
-met_by_none kept reader i k writer number at none config peer s =
+met_by_none kept reader i k writer number at none roster peer s =
     away (row_of (λ (p : WriterProxy). p.writer) (own_proxies peer.part reader) writer)
-    (not_known_there kept config peer reader i k writer s number at none)
+    (not_known_there kept roster peer reader i k writer s number at none)
   where
     away : (o : Option WriterProxy) → is_some o ≡ false
         → false ≡ is_attached (option_map_or (λ (p : WriterProxy). p.how) o Away)
@@ -382,9 +382,9 @@ met_by_none kept reader i k writer number at none config peer s =
 
 -- a reader that is not there
 pub met_by_nobody : (kept : PeerKept) (reader : ℕ) (writer : Endpoint) → is_number reader (length kept.readers) ≡ false
-    → (config : Config) (peer : Peer) → StandsFor kept config peer
+    → (roster : Roster) (peer : Peer) → StandsFor kept roster peer
     → false ≡ is_attached (how_of (own_proxies peer.part reader) writer)
-met_by_nobody kept reader writer none config peer s =
+met_by_nobody kept reader writer none roster peer s =
     sym (ap (λ (rows : List WriterProxy). is_attached (how_of rows writer))
     (no_rows peer.part.rtps.readers reader (length kept.readers) s.readers.rows none))
 

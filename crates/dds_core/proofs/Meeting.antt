@@ -56,7 +56,7 @@ pub record Took (c : Telling) (k' : ReaderKept) (from : ℕ) (step : Step) : Typ
 pub record Met (c : Telling) (k' : ReaderKept) (Meets : State → Type 0) : Type 0 where
   pub state : State
   pub meets : Meets state
-  pub stands : StandsFor (with_reader c.kept c.i k') c.config (with_state c.peer state)
+  pub stands : StandsFor (with_reader c.kept c.i k') c.roster (with_state c.peer state)
 
 -- what the reader knows of the writer now, and what happened there now
 abbrev pub NowKnows : Telling → ReaderKept → Tracked → Type 0
@@ -309,7 +309,7 @@ begins_with c k' from step number change took is other low begun m =
         (jumps_gone (told_match c) (begun_at number (known_of c)) (reader_of c).happened number change step.to
         step.passed m.new m.after m.jumps).place
 
-    ended : StandsFor (with_reader c.kept c.i k') c.config (with_state c.peer there)
+    ended : StandsFor (with_reader c.kept c.i k') c.roster (with_state c.peer there)
     ended =
         stage_ends c k' Begun m.new (with_place rows c.writer step.to) m.after there
         (gone c Begun (begun_at number (known_of c)) rows (reader_of c).happened mid at_mid step.to m.new m.after place)
@@ -460,7 +460,7 @@ heartbeat_on c own at entity k' h from step how is here took later t rows begun 
       after = refl;
     }
 
-    ended : StandsFor (with_reader c.kept c.i k') c.config (with_state c.peer new)
+    ended : StandsFor (with_reader c.kept c.i k') c.roster (with_state c.peer new)
     ended =
         stage_ends c k' Begun last (with_place rows c.writer step.to) m.after new
         (noted c Begun mid (with_place rows c.writer step.to) m.after there at_there last

@@ -1,5 +1,5 @@
 -- Two of them are one where the test of them says so.
-use Rattle.std.proofs.Common.{◌≡◌, ℕ, Bool, true, ◌&&◌, ◌==◌, Option, Some, None, List, length, ◌<◌, refl, ap, ◌∙◌, eqb-true, sym}
+use Rattle.std.proofs.Common.{◌≡◌, ℕ, true, ◌&&◌, ◌==◌, Option, Some, None, List, length, ◌<◌, refl, ap, ◌∙◌, eqb-true, sym}
 use Rattle.std.specs.Option.{option_eq}
 use Rattle.std.specs.Prelude.{Contains, nat_eq, slice_index_or}
 use Rattle.std.proofs.lemmas.Bool.{and_parts}

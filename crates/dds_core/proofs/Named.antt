@@ -1,70 +1,61 @@
--- Whom a submessage names, by the rows of a reader and by the configuration.
-use Rattle.std.proofs.Common.{◌≡◌, ℕ, zero, suc, ◌+◌, ◌<◌, List, Some, slice_get, refl, ap, sym, ◌∙◌, arith}
-use Rattle.dds_base.specs.declared.config.Config.{Config}
+-- Whom a submessage names, by the rows of a reader and by the roster.
+use Rattle.std.proofs.Common.{◌≡◌, ℕ, zero, suc, ◌+◌, ◌<◌, List, Some, slice_get, refl, ap, ◌∙◌, arith}
+use Rattle.dds_protocol.specs.Roster.{Roster}
 use Rattle.dds_base.specs.declared.guid.EntityId.{EntityId}
 use Rattle.dds_base.specs.declared.guid.Guid.{Guid}
-use Rattle.dds_base.specs.declared.endpoint.Endpoint.{Endpoint}
-use Rattle.dds_protocol.specs.Claims.{Receiver, IsWriter, IsReader, IsToReader}
+use Rattle.dds_protocol.specs.Claims.{Receiver, IsToReader}
 use Rattle.dds_protocol.specs.Peer.{Peer}
 use Rattle.dds_ends.specs.declared.matching.WriterName.{WriterName}
+use Rattle.dds_ends.specs.Identity.{IsReaderOf, reader_identity}
 use Rattle.dds_ends.specs.Kept.{ReaderKept}
 use Rattle.dds_core.specs.Kept.{PeerKept}
-use Rattle.dds_ends.specs.Readiness.{IsFirstName, IsNamedFor, writer_guid}
+use Rattle.dds_ends.specs.Readiness.{IsFirstName, IsNamedFor}
 use Rattle.dds_ends.specs.Standing.{IsFirstRow}
 use Rattle.dds_core.specs.Standing.{StandsFor}
 use Rattle.dds_ends.specs.MatchedEnds.{IsWriterNamed}
-use Rattle.dds_core.proofs.Names.{one_guid, IsOwnReader, own_reader_is}
+use Rattle.dds_core.proofs.Names.{one_guid, own_end, own_reader_is}
 
--- ---- from a row to the configuration
+-- ---- from a row to the roster
 
 -- the first row of a name is the first one of its writer
-pub first_row : (config : Config) (peer : Peer) (kept : PeerKept) (s : StandsFor kept config peer) (i : ℕ)
+pub first_row : (roster : Roster) (peer : Peer) (kept : PeerKept) (s : StandsFor kept roster peer) (i : ℕ)
     (k : ReaderKept) → slice_get kept.readers i ≡ Some k → (guid : Guid) (n : ℕ) (f : IsFirstName k.writers guid n)
     → IsFirstRow k.writers f.name.writer n
-first_row config peer kept s i k at_k guid n f =
-    let own : IsOwnReader config s.is_peer.own i k = own_reader_is config peer.number kept s.is_peer i k at_k in
+first_row roster peer kept s i k at_k guid n f =
+    let own : IsReaderOf roster (own_end peer.number i) (reader_identity k) =
+    own_reader_is roster peer.number kept s.is_peer i k at_k in
     record {
       name = f.name;
       at = f.at;
       is = refl;
       first =
           λ j x lt at_x same. f.first j x lt at_x
-          (one_guid config own.end.topic x f.name (own.names j x at_x) (own.names n f.name f.at) same ∙ f.named);
+          (one_guid roster x.guid f.name.guid x.writer f.name.writer (own.writers j x at_x).is
+          (own.writers n f.name f.at).is same ∙ f.named);
     }
 
 -- the submessage is to the reader of this index from the writer of its row
-abbrev pub is_to : (config : Config) (peer : Peer) (kept : PeerKept) (s : StandsFor kept config peer) (i : ℕ)
+abbrev pub is_to : (roster : Roster) (peer : Peer) (kept : PeerKept) (s : StandsFor kept roster peer) (i : ℕ)
     (k : ReaderKept) → slice_get kept.readers i ≡ Some k → (at : Receiver) (reader_id writer_id : EntityId) (n : ℕ)
     (here : IsNamedFor kept.prefix k at reader_id writer_id n)
-    → IsToReader config kept.prefix at reader_id writer_id here.first.name.writer
+    → IsToReader roster kept.prefix at reader_id writer_id here.first.name.writer
     (record { peer = peer.number; number = suc i })
-is_to config peer kept s i k at_k at reader_id writer_id n here =
-    let own : IsOwnReader config s.is_peer.own i k = own_reader_is config peer.number kept s.is_peer i k at_k in
+is_to roster peer kept s i k at_k at reader_id writer_id n here =
+    let own : IsReaderOf roster (own_end peer.number i) (reader_identity k) =
+    own_reader_is roster peer.number kept s.is_peer i k at_k in
     let name : WriterName = here.first.name in
-    let named : IsWriterNamed config.peers own.end.topic name = own.names n name here.first.at in
-    let from : IsWriter config at.source_guid_prefix writer_id name.writer = record {
-      peer = named.peer;
-      at_peer = named.at_peer;
-      same_prefix = named.same_prefix ∙ ap (λ (g : Guid). g.prefix) here.first.named;
-      end = named.end;
-      at_writer = named.at_end;
-      same_entity = named.same_entity ∙ ap (λ (g : Guid). g.entity) here.first.named;
-    } in
-    let to : IsReader config kept.prefix k.entity (record { peer = peer.number; number = suc i }) = record {
-      peer = s.is_peer.own;
-      at_peer = s.is_peer.at;
-      same_prefix = sym s.is_peer.prefix;
-      end = own.end;
-      at_reader = own.at;
-      same_entity = own.entity;
-    } in
+    let named : IsWriterNamed roster (own_end peer.number i) name = own.writers n name here.first.at in
     record {
-      from = from;
+      from =
+          record {
+            same_prefix = named.is.same_prefix ∙ ap (λ (g : Guid). g.prefix) here.first.named;
+            at_writer = named.is.at_writer ∙ ap (λ (g : Guid). Some g.entity) here.first.named;
+          };
       is_for = here.is_for;
       entity = k.entity;
-      to = to;
+      to = record { same_prefix = s.is_peer.prefix; at_reader = own.entity };
       named = here.named;
-      matched = named.same_topic;
+      matched = named.matched;
     }
 
 -- ---- from a name to a row

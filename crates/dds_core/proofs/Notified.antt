@@ -3,7 +3,7 @@ use Rattle.std.proofs.Common.{◌≡◌, ℕ, suc, ◌+◌, ◌-◌, ◌<◌, �
 use Rattle.std.specs.Prelude.{if◌then◌else◌}
 use Rattle.std.proofs.lemmas.Bool.{cases_lt}
 use Rattle.std.proofs.lemmas.Option.{slice_get-get_or, slice_get_read}
-use Rattle.dds_base.specs.declared.config.Config.{Config}
+use Rattle.dds_protocol.specs.Roster.{Roster}
 use Rattle.dds_base.specs.declared.entity.Entity.{Entity}
 use Rattle.dds_base.specs.declared.entity.Entity.TheVariants as entity
 use Rattle.dds_notices.specs.declared.notice.Notice.{Notice}
@@ -39,11 +39,11 @@ end_found ends inside now n from x view low high number is =
     (omega (arith, low, number), within, at, subst (λ (p : PeerKept). slice_get (ends p) (from - 1) ≡ Some x) view at)
 
 -- the listeners of a peer are the last thing that it stands for
-pub listeners_apart : (kept : PeerKept) (config : Config) (peer : Peer) (places : Places) → StandsFor kept config peer
-    → StandsFor kept config
+pub listeners_apart : (kept : PeerKept) (roster : Roster) (peer : Peer) (places : Places) → StandsFor kept roster peer
+    → StandsFor kept roster
     (record peer { part = record peer.part { dds = record peer.part.dds { listeners = places } } })
-listeners_apart kept config peer places s =
-    stands_beside kept kept.watch peer.part.dds.watch places peer.delivered config peer s.watch s
+listeners_apart kept roster peer places s =
+    stands_beside kept kept.watch peer.part.dds.watch places peer.delivered roster peer s.watch s
 
 -- a part, once a status of its reader was looked at
 sees_part : (part : Part) (i : ℕ) (status : Status)
@@ -61,33 +61,33 @@ sees_part part i (SubscriptionMatched values) = refl
 module _ {L : Type 0} (notices : L → List Notice) (capacity : L → ℕ) (becomes : L → Notice → L → Type 0) where
   -- the same change, as it is at the states that a peer stands for
   pub tells_as : (f g : Part → Part) (old : PeerKept) (slots : Slotted L) (new : PeerKept) (after : Slotted L)
-      → ((config : Config) (peer : Peer) → StandsFor old config peer → f peer.part ≡ g peer.part)
+      → ((roster : Roster) (peer : Peer) → StandsFor old roster peer → f peer.part ≡ g peer.part)
       → Tells notices capacity becomes f old slots new after → Tells notices capacity becomes g old slots new after
-  tells_as f g old slots new after same h = λ given config peer s l.
-      subst (λ (p : Part). StandsFor new config (record peer { part = p })
+  tells_as f g old slots new after same h = λ given roster peer s l.
+      subst (λ (p : Part). StandsFor new roster (record peer { part = p })
       × SlotsStandFor notices capacity becomes given after p.dds.listeners)
-      (same config peer s) (h given config peer s l)
+      (same roster peer s) (h given roster peer s l)
 
   -- one change, and then another
   pub tells_then : (f g : Part → Part) (old : PeerKept) (slots : Slotted L) (mid : PeerKept) (between : Slotted L)
       (new : PeerKept) (after : Slotted L)
       → Tells notices capacity becomes f old slots mid between → Tells notices capacity becomes g mid between new after
       → Tells notices capacity becomes (λ part. g (f part)) old slots new after
-  tells_then f g old slots mid between new after first second = λ given config peer s l.
-      let one = first given config peer s l in
-      second given config (record peer { part = f peer.part }) one.0 one.1
+  tells_then f g old slots mid between new after first second = λ given roster peer s l.
+      let one = first given roster peer s l in
+      second given roster (record peer { part = f peer.part }) one.0 one.1
 
   -- nothing was raised
   pub tells_nothing : (e : Entity) (kept : PeerKept) (slots : Slotted L)
       → Tells notices capacity becomes (λ part. told part e None) kept slots kept slots
-  tells_nothing e kept slots = λ given config peer s l. (s, l)
+  tells_nothing e kept slots = λ given roster peer s l. (s, l)
 
   -- nobody takes it
   pub tells_nobody : (e : Entity) (status : Status) (kept : PeerKept) (slots : Slotted L)
       → ((given : ByEntity L) (places : Places) → SlotsStandFor notices capacity becomes given slots places → false ≡ is_some (taker_of places e status))
       → Tells notices capacity becomes (λ part. told part e (Some status)) kept slots kept slots
-  tells_nobody e status kept slots takes = λ given config peer s l.
-      subst (λ (p : Part). StandsFor kept config (record peer { part = p })
+  tells_nobody e status kept slots takes = λ given roster peer s l.
+      subst (λ (p : Part). StandsFor kept roster (record peer { part = p })
       × SlotsStandFor notices capacity becomes given slots p.dds.listeners)
       (ap (λ (b : Bool). if b then told_of peer.part e status else peer.part) (takes given peer.part.dds.listeners l))
       (s, l)
@@ -97,16 +97,16 @@ module _ {L : Type 0} (notices : L → List Notice) (capacity : L → ℕ) (beco
       → ((given : ByEntity L) (places : Places) → SlotsStandFor notices capacity becomes given slots places → true ≡ is_some (taker_of places e status))
       → ((given : ByEntity L) (places : Places) → SlotsStandFor notices capacity becomes given slots places
       → SlotsStandFor notices capacity becomes given after (after_notice places (record { entity = e; status = status })))
-      → ((config : Config) (peer : Peer) → StandsFor old config peer
-      → StandsFor new config (record peer { part = looked_at peer.part e status }))
+      → ((roster : Roster) (peer : Peer) → StandsFor old roster peer
+      → StandsFor new roster (record peer { part = looked_at peer.part e status }))
       → Tells notices capacity becomes (λ part. told part e (Some status)) old slots new after
-  told_by e status old slots new after takes tell look = λ given config peer s l.
+  told_by e status old slots new after takes tell look = λ given roster peer s l.
       let places = after_notice peer.part.dds.listeners (record { entity = e; status = status }) in
-      subst (λ (p : Part). StandsFor new config (record peer { part = p })
+      subst (λ (p : Part). StandsFor new roster (record peer { part = p })
       × SlotsStandFor notices capacity becomes given after p.dds.listeners)
       (ap (λ (b : Bool). if b then told_of peer.part e status else peer.part) (takes given peer.part.dds.listeners l)) (
-        listeners_apart new config (record peer { part = looked_at peer.part e status }) places
-            (look config peer s),
+        listeners_apart new roster (record peer { part = looked_at peer.part e status }) places
+            (look roster peer s),
         tell given peer.part.dds.listeners l,
       )
 
@@ -124,14 +124,14 @@ module _ {L : Type 0} (notices : L → List Notice) (capacity : L → ℕ) (beco
       subst (λ (o : Option Status). Tells notices capacity becomes (λ part. told part (entity.Reader n) o) old slots
       (with_reader inside i k') after) (sym so)
       (told_by (entity.Reader n) status old slots (with_reader inside i k') after takes tell
-      (λ config peer given.
-      let s : StandsFor inside config peer = subst (λ (x : PeerKept). StandsFor x config peer) (sym view) given in
-      subst (λ (m : ℕ). StandsFor (with_reader inside i k') config
+      (λ roster peer given.
+      let s : StandsFor inside roster peer = subst (λ (x : PeerKept). StandsFor x roster peer) (sym view) given in
+      subst (λ (m : ℕ). StandsFor (with_reader inside i k') roster
       (record peer { part = looked_at peer.part (entity.Reader m) status })) is
-      (subst (λ (p : Part). StandsFor (with_reader inside i k') config (record peer { part = p }))
+      (subst (λ (p : Part). StandsFor (with_reader inside i k') roster (record peer { part = p }))
       (sees_part peer.part i status)
       (own_reader_changed inside i k k'
-      (seen_at (own_proxies peer.part (suc i)) (own_reader peer.part (suc i)) status) config peer s at same
+      (seen_at (own_proxies peer.part (suc i)) (own_reader peer.part (suc i)) status) roster peer s at same
       (sees (own_proxies peer.part (suc i)) (own_reader peer.part (suc i)) (λ w. peer.known.tracked w (suc i))
       (s.readers.each i k at))))))
 
@@ -151,7 +151,7 @@ module _ {L : Type 0} (notices : L → List Notice) (capacity : L → ℕ) (beco
       (λ part. told part (entity.Reader n)
       (raised (own_proxies before n) (own_reader before n) (own_proxies part n) (own_reader part n))) old slots new
       after
-      (λ config peer s.
+      (λ roster peer s.
       ap (λ (o : Option Status). told peer.part (entity.Reader n) o)
       (subst (λ (m : ℕ). status
       ≡ raised (own_proxies before n) (own_reader before n) (own_proxies peer.part m) (own_reader peer.part m)) is
@@ -161,7 +161,7 @@ module _ {L : Type 0} (notices : L → List Notice) (capacity : L → ℕ) (beco
   -- none of the entities yet
   pub tells_first : (tell : ℕ → Part → Part) (kept : PeerKept) (slots : Slotted L)
       → Tells notices capacity becomes (each_told tell 0) kept slots kept slots
-  tells_first tell kept slots = λ given config peer s l. (s, l)
+  tells_first tell kept slots = λ given roster peer s l. (s, l)
 
   -- one entity more
   pub tells_next : (tell : ℕ → Part → Part) (old : PeerKept) (slots : Slotted L) (mid : PeerKept) (between : Slotted L)
@@ -206,7 +206,7 @@ pub marks_peer : (kept now : PeerKept) (writers : List WriterMark) (readers : Li
     → MarksWriters kept.writers (length kept.writers) writers
     → MarksReaders kept.readers (length kept.readers) readers
     → MarksPeer now (record { writers = writers; readers = readers })
-marks_peer kept now writers readers view of_writers of_readers config peer given = record {
+marks_peer kept now writers readers view of_writers of_readers roster peer given = record {
   writers = λ i mark at.
       ⊎_elim
       (λ lt.
@@ -242,8 +242,8 @@ marks_peer kept now writers readers view of_writers of_readers config peer given
       (cases_lt i (length kept.readers));
 }
   where
-    s : StandsFor kept config peer
-    s = subst (λ (x : PeerKept). StandsFor x config peer) (sym view) given
+    s : StandsFor kept roster peer
+    s = subst (λ (x : PeerKept). StandsFor x roster peer) (sym view) given
 
     some_one : {X : Type 0} (xs : List X) (i : ℕ) → i < length xs → X
     some_one [] i h = absurd (omega (arith, h))

@@ -1,39 +1,46 @@
 -- A peer at its opening: each of its writers and readers in its turn, and all of them at once.
-use Rattle.std.proofs.Common.{◌≡◌, ℕ, zero, suc, ◌+◌, ◌-◌, ◌^◌, ◌<◌, List, [], ◌∷◌, ◌++◌, Some, None, map, take, length, get_or, slice_get, refl, subst, ap, sym, ◌∙◌, ⊎_elim, arith}
+use Rattle.std.proofs.Common.{◌≡◌, ℕ, zero, suc, ◌+◌, ◌-◌, ◌^◌, ◌<◌, ◌≤◌, List, [], ◌∷◌, ◌++◌, Some, None, map, take, length, get_or, slice_get, refl, subst, ap, sym, ◌∙◌, ⊎_elim, arith, eq-eqb}
 use Rattle.std.proofs.lemmas.List.{length-map, length-append, take_more}
 use Rattle.std.proofs.lemmas.Option.{same_Some, slice_get-get_or}
+use Rattle.dds_base.specs.declared.config.Config.{Config}
 use Rattle.dds_base.specs.declared.config.PeerConfig.{PeerConfig}
 use Rattle.dds_base.specs.declared.config.WriterConfig.{WriterConfig}
 use Rattle.dds_base.specs.declared.config.ReaderConfig.{ReaderConfig}
+use Rattle.dds_base.specs.declared.endpoint.Endpoint.{Endpoint}
+use Rattle.dds_base.specs.Bounds.{greatest_value}
 use Rattle.dds_base.specs.Checked.{check_refusal}
-use Rattle.dds_base.specs.Matched.{any_reader, any_writer}
+use Rattle.dds_base.specs.Matched.{any_writer}
 use Rattle.dds_conditions.specs.Watched.{Watched, opened}
 use Rattle.dds_machine.specs.Opening.{opening_reader, opening_writer, matched_writers, opening_part, reader_names as all_readers, writer_names as all_writers}
 use Rattle.dds_protocol.specs.Opening.{opening_peers}
+use Rattle.dds_machine.specs.Numbered.{HasNumber}
 use Rattle.dds_machine.specs.Part.{Names, Writer, Reader, WriterProxy, no_writer, no_reader}
 use Rattle.rtps_reader.specs.Tracked.{fresh}
 use Rattle.dds_protocol.specs.Contact.{no_contact}
 use Rattle.dds_protocol.specs.Protocol.{knows_nothing}
 use Rattle.dds_protocol.specs.Peer.{Peer, no_peer}
-use Rattle.dds_protocol.proofs.Rosters.{configs_are_rosters}
+use Rattle.dds_protocol.specs.Claims.{IsNumbered}
+use Rattle.dds_protocol.specs.Roster.{AreGood, roster_of}
+use Rattle.dds_protocol.proofs.Listed.{StandsIn, matched_is, prefix_is, reader_is, reliable_is, writer_is, writer_named}
+use Rattle.dds_protocol.proofs.Rosters.{configs_are_good, good_are_rosters}
 use Rattle.dds_ends.specs.Kept.{WriterKept, ReaderKept}
-use Rattle.dds_ends.specs.declared.matching.TopicName.{TopicName}
 use Rattle.dds_ends.specs.declared.matching.WriterName.{WriterName}
-use Rattle.dds_ends.specs.EndNames.{topic_name, topic_names, writer_name, writer_names}
-use Rattle.dds_ends.specs.Identity.{ReaderIdentity, WriterIdentity, writer_identity, reader_identity, configured_writer, configured_reader, IsConfiguredReader, IsWriterOf}
-use Rattle.dds_ends.specs.MatchedEnds.{AreKnownReaders, AreKnownWriters, IsKnownReader, IsWriterNamed}
-use Rattle.dds_core.specs.Identity.{AreRowsOnce}
+use Rattle.dds_ends.specs.EndNames.{writer_name, writer_names}
+use Rattle.dds_ends.specs.Identity.{ReaderIdentity, WriterIdentity, writer_identity, reader_identity, configured_writer, configured_reader, IsReaderOf, IsWriterOf}
+use Rattle.dds_ends.specs.MatchedEnds.{AreKnownWriters, IsWriterNamed}
+use Rattle.dds_core.specs.Identity.{AreRowsOnce, IsPeerOf}
 use Rattle.dds_core.specs.Kept.{PeerKept}
 use Rattle.dds_core.specs.Opening.{opening_peer}
 use Rattle.dds_ends.specs.OpeningEnds.{OpensWriter, OpensReader}
 use Rattle.dds_core.specs.OpeningEnds.{OpensEach, OpensCore}
 use Rattle.dds_ends.specs.Standing.{WriterStands, ReaderStands, WritersStand, ReadersStand}
 use Rattle.dds_core.specs.Standing.{StandsFor}
-use Rattle.dds_ends.proofs.Lists.{get-map}
-use Rattle.dds_ends.proofs.MatchedAt.{ends_opened}
+use Rattle.dds_ends.proofs.Lists.{element, get-map}
+use Rattle.dds_ends.proofs.MatchedAt.{all_opened, ends_opened}
 use Rattle.dds_ends.proofs.Numbered.{is_told}
 use Rattle.dds_ends.proofs.Once.{writers_once}
 use Rattle.dds_ends.proofs.Alike.{last-cases, partner}
+use Rattle.dds_core.proofs.Limited.{limited}
 use Rattle.dds_core.proofs.Tellable.{tellable_opening}
 
 -- ---- one element more
@@ -148,62 +155,57 @@ opening_is peers index own at =
     let number : suc index ≡ index + 1 = omega arith in
     opening_at peers 1 peers index own at ∙ ap (λ (k : ℕ). opening_peer (record { peers = peers }) k) number
 
-is_numbered : (peers : List PeerConfig) (index : ℕ) (own : PeerConfig) → slice_get peers index ≡ Some own
-    → slice_get peers (1 + index - 1) ≡ Some own
-is_numbered peers index own at =
-    let same : index ≡ 1 + index - 1 = omega arith in subst (λ (k : ℕ). slice_get peers k ≡ Some own) same at
+-- it has its number there
+pub opening_number : (config : Config) (index : ℕ) → index < length config.peers
+    → HasNumber config.peers (opening_peer config (index + 1)).number
+opening_number config index lt =
+    let own = element config.peers index lt in
+    subst (λ (p : Peer). HasNumber config.peers p.number) (opening_is config.peers index own.0 own.1)
+    (omega arith, omega (arith, lt))
 
--- the readers that a writer is opened with are those of its topic
-readers_opened : (peers : List PeerConfig) (topic : ℕ) → AreKnownReaders peers topic (topic_names topic peers)
-readers_opened peers topic i k at =
-    let f =
-    is_told peers (λ (p : PeerConfig). p.readers) any_reader (λ (r : ReaderConfig). r.topic) topic_name topic i k at in
-    subst (λ (x : TopicName). IsKnownReader peers topic x) f.told
-    (record {
-      name_is = record {
-        is = record {
-          peer = f.peer;
-          at_peer = f.at_peer;
-          end = f.end;
-          at_reader = f.at_end;
-          same_topic = f.same_topic;
-        };
-        same_prefix = refl;
-        same_entity = refl;
-      };
-      as_reliable = refl;
-    })
+-- what stands at an index has the number after it
+is_numbered : {X : Type 0} (xs : List X) (index number : ℕ) (x : X) → number ≡ index + 1 → slice_get xs index ≡ Some x
+    → IsNumbered xs number x
+is_numbered xs index number x is at =
+    let same : index ≡ number - 1 = omega (arith, is) in
+    (omega (arith, is), subst (λ (k : ℕ). slice_get xs k ≡ Some x) same at)
 
 -- the writers that a reader is opened with are those of its topic
-writers_opened : (peers : List PeerConfig) (topic : ℕ) → AreKnownWriters peers topic (writer_names topic peers)
-writers_opened peers topic i n at =
+writers_opened : (config : Config) (reader : Endpoint) (r : ReaderConfig)
+    → StandsIn (λ (p : PeerConfig). p.readers) config.peers reader r
+    → AreKnownWriters (roster_of config) reader (writer_names r.topic config.peers)
+writers_opened config reader r own i n at =
     let f =
-    is_told peers (λ (p : PeerConfig). p.writers) any_writer (λ (w : WriterConfig). w.topic) writer_name topic i n at in
-    subst (λ (x : WriterName). IsWriterNamed peers topic x) f.told
+    is_told config.peers (λ (p : PeerConfig). p.writers) any_writer (λ (w : WriterConfig). w.topic) writer_name r.topic
+    i n at in
+    let writer : Endpoint = record { peer = f.number; number = f.end_number } in
+    subst (λ (x : WriterName). IsWriterNamed (roster_of config) reader x) f.told
     (record {
-      peer = f.peer;
-      at_peer = f.at_peer;
-      same_prefix = refl;
-      end = f.end;
-      at_end = f.at_end;
-      same_entity = refl;
-      same_topic = f.same_topic;
+      is = writer_named config writer f.peer f.end f.at_peer f.at_end;
+      matched =
+          matched_is config writer reader f.peer own.peer f.end r f.at_peer f.at_end own.at_peer own.at_end
+          ∙ eq-eqb f.end.topic r.topic f.same_topic;
     })
 
--- a writer at its opening is one of the configuration
-opened_is : (peers : List PeerConfig) (w : WriterConfig) → IsWriterOf peers w (configured_writer peers w)
-opened_is peers w = record {
-  entity = refl;
-  autodispose = refl;
-  max_value = refl;
-  known = readers_opened peers w.topic;
-  ends = ends_opened peers w.topic;
+-- a writer at its opening is one of the roster
+opened_is : (config : Config) (writer : Endpoint) (w : WriterConfig)
+    → StandsIn (λ (p : PeerConfig). p.writers) config.peers writer w
+    → IsWriterOf (roster_of config) writer (configured_writer config.peers w)
+opened_is config writer w own = record {
+  entity = writer_is config writer own.peer w own.at_peer own.at_end;
+  known = all_opened config writer w own;
+  ends = ends_opened config writer w own;
 }
 
--- a reader at its opening is one of the configuration
-opened_reader_is : (peers : List PeerConfig) (r : ReaderConfig) → IsConfiguredReader peers r (configured_reader peers r)
-opened_reader_is peers r =
-    record { entity = refl; reliable = refl; writers = writers_opened peers r.topic }
+-- a reader at its opening is one of the roster
+opened_reader_is : (config : Config) (reader : Endpoint) (r : ReaderConfig)
+    → StandsIn (λ (p : PeerConfig). p.readers) config.peers reader r
+    → IsReaderOf (roster_of config) reader (configured_reader config.peers r)
+opened_reader_is config reader r own = record {
+  entity = reader_is config reader own.peer r own.at_peer own.at_end;
+  reliable = reliable_is config reader own.peer r own.at_peer own.at_end;
+  writers = writers_opened config reader r own;
+}
 
 -- the names of all ends
 abbrev pub all_named : List PeerConfig → Names
@@ -220,41 +222,79 @@ opened_as own moment writers readers names watch = record {
   watch = watch;
 }
 
-stands_begun : (peers : List PeerConfig) (index moment : ℕ) (own : PeerConfig) (writers : List WriterKept)
-    (readers : List ReaderKept) (names : Names) (watch : Watched) → check_refusal peers ≡ None
-    → slice_get peers index ≡ Some own
-    → moment ≡ 0 → names ≡ all_named peers
+-- who they are stands in the roster
+module _ (config : Config) (index : ℕ) (own : PeerConfig) (at : slice_get config.peers index ≡ Some own) where
+  here : IsNumbered config.peers (1 + index) own
+  here = is_numbered config.peers index (1 + index) own (omega arith) at
+
+  -- the end of this index
+  end_of : {X : Type 0} (ends : PeerConfig → List X) (i : ℕ) (x : X) → slice_get (ends own) i ≡ Some x
+      → StandsIn ends config.peers (record { peer = 1 + index; number = i + 1 }) x
+  end_of ends i x at_x =
+      record { peer = own; at_peer = here; at_end = is_numbered (ends own) i (i + 1) x refl at_x }
+
+  -- what is so of each writer as it is configured is so of each that is opened
+  each_writer : (writers : List WriterKept) → OpensEach (OpensWriter config.peers) own.writers writers
+      → (Is : ℕ → WriterIdentity → Type 0)
+      → ((i : ℕ) (w : WriterConfig) → slice_get own.writers i ≡ Some w → Is i (configured_writer config.peers w))
+      → (i : ℕ) (x : WriterIdentity) → slice_get (map writer_identity writers) i ≡ Some x → Is i x
+  each_writer writers ws Is each i x at_x =
+      let f = get-map writer_identity writers i x at_x in
+      let w = partner own.writers writers i f.0 ws.count f.1 in
+      subst (λ (y : WriterIdentity). Is i y) (sym (ws.each i w.0 f.0 w.1 f.1).identity ∙ f.2) (each i w.0 w.1)
+
+  -- and so it is of the readers
+  each_reader : (readers : List ReaderKept) → OpensEach (OpensReader config.peers) own.readers readers
+      → (Is : ℕ → ReaderIdentity → Type 0)
+      → ((i : ℕ) (r : ReaderConfig) → slice_get own.readers i ≡ Some r → Is i (configured_reader config.peers r))
+      → (i : ℕ) (x : ReaderIdentity) → slice_get (map reader_identity readers) i ≡ Some x → Is i x
+  each_reader readers rs Is each i x at_x =
+      let f = get-map reader_identity readers i x at_x in
+      let r = partner own.readers readers i f.0 rs.count f.1 in
+      subst (λ (y : ReaderIdentity). Is i y) (sym (rs.each i r.0 f.0 r.1 f.1).identity ∙ f.2) (each i r.0 r.1)
+
+  peer_begun : (writers : List WriterKept) (readers : List ReaderKept) → AreGood config.peers
+      → OpensEach (OpensWriter config.peers) own.writers writers
+      → OpensEach (OpensReader config.peers) own.readers readers
+      → IsPeerOf (roster_of config) (1 + index) (record {
+        prefix = own.prefix;
+        writers = map writer_identity writers;
+        readers = map reader_identity readers;
+      })
+  peer_begun writers readers good ws rs = record {
+    is_roster = good_are_rosters config good;
+    prefix = prefix_is config (1 + index) own here;
+    writers = each_writer writers ws
+        (λ i x. IsWriterOf (roster_of config) (record { peer = 1 + index; number = i + 1 }) x)
+        (λ i w at_w. opened_is config (record { peer = 1 + index; number = i + 1 }) w
+        (end_of (λ (p : PeerConfig). p.writers) i w at_w));
+    limited = each_writer writers ws (λ i x. x.max_value ≤ greatest_value)
+        (λ i w at_w. limited config.peers good index own at i w at_w);
+    readers = each_reader readers rs
+        (λ i x. IsReaderOf (roster_of config) (record { peer = 1 + index; number = i + 1 }) x)
+        (λ i r at_r. opened_reader_is config (record { peer = 1 + index; number = i + 1 }) r
+        (end_of (λ (p : PeerConfig). p.readers) i r at_r));
+    once = each_reader readers rs (λ i x. AreRowsOnce x.writers)
+        (λ i r at_r. writers_once r.topic config.peers);
+  }
+
+stands_begun : (config : Config) (index moment : ℕ) (own : PeerConfig) (writers : List WriterKept)
+    (readers : List ReaderKept) (names : Names) (watch : Watched) → check_refusal config.peers ≡ None
+    → slice_get config.peers index ≡ Some own
+    → moment ≡ 0 → names ≡ all_named config.peers
     → watch ≡ opened (length writers) (length readers)
-    → OpensEach (OpensWriter peers) own.writers writers → OpensEach (OpensReader peers) own.readers readers
-    → StandsFor (opened_as own moment writers readers names watch) (record { peers = peers }) (begun peers own (1 + index))
-stands_begun peers index moment own writers readers names watch checked at begins named watches ws rs = record {
-  is_peer = record {
-    roster = configs_are_rosters (record { peers = peers }) checked;
-    own = own;
-    at = (omega arith, is_numbered peers index own at);
-    prefix = refl;
-    count = length-map writers writer_identity ∙ ws.count;
-    writers = λ i w x at_w at_x.
-        let f = get-map writer_identity writers i x at_x in
-        subst (λ (y : WriterIdentity). IsWriterOf peers w y) (sym (ws.each i w f.0 at_w f.1).identity ∙ f.2)
-        (opened_is peers w);
-    reader_count = length-map readers reader_identity ∙ rs.count;
-    readers = λ i r x at_r at_x.
-        let f = get-map reader_identity readers i x at_x in
-        subst (λ (y : ReaderIdentity). IsConfiguredReader peers r y) (sym (rs.each i r f.0 at_r f.1).identity ∙ f.2)
-        (opened_reader_is peers r);
-    once = λ i x at_x.
-        let f = get-map reader_identity readers i x at_x in
-        let r = partner own.readers readers i f.0 rs.count f.1 in
-        subst (λ (y : ReaderIdentity). AreRowsOnce y.writers) (sym (rs.each i r.0 f.0 r.1 f.1).identity ∙ f.2)
-        (writers_once r.0.topic peers);
-  };
+    → OpensEach (OpensWriter config.peers) own.writers writers
+    → OpensEach (OpensReader config.peers) own.readers readers
+    → StandsFor (opened_as own moment writers readers names watch) (roster_of config)
+    (begun config.peers own (1 + index))
+stands_begun config index moment own writers readers names watch checked at begins named watches ws rs = record {
+  is_peer = peer_begun config index own at writers readers (configs_are_good config checked) ws rs;
   moment = sym begins;
   early = subst (λ (m : ℕ). m < 2 ^ 63) (sym begins) (omega arith);
-  writers = writers_stand peers own.writers writers ws;
-  readers = readers_stand peers own.readers readers rs;
+  writers = writers_stand config.peers own.writers writers ws;
+  readers = readers_stand config.peers own.readers readers rs;
   names = sym named;
-  tellable = tellable_opening peers own;
+  tellable = tellable_opening config.peers own;
   watch =
       sym (watches ∙ (ap (λ (n : ℕ). opened n (length readers)) ws.count
       ∙ ap (λ (n : ℕ). opened (length own.writers) n) rs.count));
@@ -269,6 +309,7 @@ pub opens_core : (peers : List PeerConfig) (index moment : ℕ) (own : PeerConfi
 opens_core peers index moment own writers readers names watch within checked is begins named watches ws rs =
     let at : slice_get peers index ≡ Some own =
     slice_get-get_or peers index own within ∙ ap (λ (p : PeerConfig). Some p) (sym is) in
-    subst (λ (p : Peer). StandsFor (opened_as own moment writers readers names watch) (record { peers = peers }) p)
+    let config : Config = record { peers = peers } in
+    subst (λ (p : Peer). StandsFor (opened_as own moment writers readers names watch) (roster_of config) p)
     (opening_is peers index own at)
-    (stands_begun peers index moment own writers readers names watch checked at begins named watches ws rs)
+    (stands_begun config index moment own writers readers names watch checked at begins named watches ws rs)

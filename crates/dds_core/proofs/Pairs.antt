@@ -4,7 +4,7 @@ use Rattle.std.specs.Prelude.{◌&&◌, nat_lt, nat_le, IsSome, slice_index}
 use Rattle.std.specs.Option.{option_map, option_map_or}
 use Rattle.std.proofs.lemmas.Bool.Decides.{nat_tests}
 use Rattle.std.proofs.lemmas.Option.{same_Some}
-use Rattle.dds_base.specs.declared.config.Config.{Config}
+use Rattle.dds_protocol.specs.Roster.{Roster}
 use Rattle.dds_base.specs.declared.guid.EntityId.{EntityId}
 use Rattle.rtps_reader.specs.Tracked.{Tracked}
 use Rattle.dds_base.specs.declared.endpoint.Endpoint.{Endpoint}
@@ -25,6 +25,7 @@ use Rattle.dds_ends.specs.Standing.{WriterStands, IsFirstReader, IsFirstRow}
 use Rattle.dds_core.specs.Standing.{StandsFor}
 use Rattle.dds_core.proofs.BeatsDue.{named_reader, readers_named, writer_named}
 use Rattle.dds_ends.proofs.Lists.{get-map, map-get, past_end}
+use Rattle.dds_core.proofs.Names.{own_end}
 use Rattle.dds_ends.proofs.Rows.{IsFirstOf, is_first_of, no_row, place_there, proxied}
 
 -- rows of matched readers
@@ -83,10 +84,10 @@ past_last : (n count : ℕ) → (nat_lt 0 (suc n) && nat_le (suc n) count) ≡ f
 past_last n count none = grind (arith, nat_tests, none)
 
 pub no_writer_pair : (kept : PeerKept) (number : ℕ) (reader : Endpoint)
-    → (nat_lt 0 number && nat_le number (length kept.writers)) ≡ false → (config : Config) (peer : Peer)
-    → StandsFor kept config peer → IsPair config peer number reader None
-no_writer_pair kept zero reader none config peer s = refl
-no_writer_pair kept (suc n) reader none config peer s =
+    → (nat_lt 0 number && nat_le number (length kept.writers)) ≡ false → (roster : Roster) (peer : Peer)
+    → StandsFor kept roster peer → IsPair roster peer number reader None
+no_writer_pair kept zero reader none roster peer s = refl
+no_writer_pair kept (suc n) reader none roster peer s =
     let count = s.writers.count in
     let past = past_last n (length kept.writers) none in
     ap (λ (w : Writer). acknowledged_of w.readers reader)
@@ -94,10 +95,10 @@ no_writer_pair kept (suc n) reader none config peer s =
 
 pub no_reader_place : (kept : PeerKept) (number : ℕ) (writer : Endpoint)
     → (nat_lt 0 number && nat_le number (length kept.readers)) ≡ false
-    → (config : Config) (peer : Peer) → StandsFor kept config peer
+    → (roster : Roster) (peer : Peer) → StandsFor kept roster peer
     → None ≡ place_of (own_proxies peer.part number) writer
-no_reader_place kept zero writer none config peer s = refl
-no_reader_place kept (suc n) writer none config peer s =
+no_reader_place kept zero writer none roster peer s = refl
+no_reader_place kept (suc n) writer none roster peer s =
     let rows = s.readers.rows in
     let past = past_last n (length kept.readers) none in
     sym (ap (λ (ps : List WriterProxy). place_of ps writer)
@@ -108,8 +109,8 @@ no_reader_place kept (suc n) writer none config peer s =
 pub not_among : (kept : PeerKept) (i number : ℕ) (k : WriterKept) (reader : Endpoint) → number ≡ i + 1
     → slice_get kept.writers i ≡ Some k
     → ((j : ℕ) (n : ReaderName) → slice_get k.readers j ≡ Some n → n.reader ≡ reader → ⊥)
-    → (config : Config) (peer : Peer) → StandsFor kept config peer → IsPair config peer number reader None
-not_among kept i number k reader is at none config peer s =
+    → (roster : Roster) (peer : Peer) → StandsFor kept roster peer → IsPair roster peer number reader None
+not_among kept i number k reader is at none roster peer s =
     let w : Writer = get_or peer.part.rtps.writers i no_writer in
     let rows = (s.writers.each i k at).readers in
     let nobody : acknowledged_of w.readers reader ≡ None =
@@ -121,7 +122,7 @@ not_among kept i number k reader is at none config peer s =
     (subst (λ (es : List Endpoint). slice_get es j ≡ Some reader) rows there) in
     none j f.0 f.1 f.2)) in
     let next : suc i ≡ number = omega (arith, is) in
-    subst (λ (m : ℕ). IsPair config peer m reader None) next nobody
+    subst (λ (m : ℕ). IsPair roster peer m reader None) next nobody
 
 -- a pair, by what the peer keeps of the writer
 abbrev pair_of : WriterKept → EntityId → Bool → ℕ → Pair
@@ -135,9 +136,9 @@ pub is_among : (kept : PeerKept) (i number : ℕ) (k : WriterKept) (reader : End
     → behind ≡ nat_le (slice_index (map (λ (p : ReaderProxy). p.acknowledged) w.readers) row)
     (length (writer_changes w)))
     → ((w : Writer) (answered : Endpoint → Contact) → WriterStands k w answered → last ≡ length (writer_changes w))
-    → (config : Config) (peer : Peer) → StandsFor kept config peer
-    → IsPair config peer number reader (Some (pair_of k f.name.guid.entity behind last))
-is_among kept i number k reader row behind last is at f is_behind is_last config peer s =
+    → (roster : Roster) (peer : Peer) → StandsFor kept roster peer
+    → IsPair roster peer number reader (Some (pair_of k f.name.guid.entity behind last))
+is_among kept i number k reader row behind last is at f is_behind is_last roster peer s =
     let w : Writer = get_or peer.part.rtps.writers i no_writer in
     let stands = s.writers.each i k at in
     let rows = stands.readers in
@@ -154,29 +155,29 @@ is_among kept i number k reader row behind last is at f is_behind is_last config
     f.first j g.0 low g.1 g.2 in
     let next : suc i ≡ number = omega (arith, is) in
     let first : 1 + i ≡ suc i = omega arith in
-    let names = readers_named config peer kept s i k at in
-    let own : k.entity ≡ writer_entity config peer.number (suc i) =
-    subst (λ (m : ℕ). k.entity ≡ writer_entity config peer.number m) first
-    (sym (writer_named config peer kept s i k at)) in
-    let far : f.name.guid.entity ≡ reader_entity config reader.peer reader.number =
-    subst (λ (e : Endpoint). f.name.guid.entity ≡ reader_entity config e.peer e.number) f.is
-    (named_reader config names.0 f.name (names.1 row f.name f.at).name_is) in
+    let own : k.entity ≡ writer_entity roster peer.number (suc i) =
+    subst (λ (m : ℕ). k.entity ≡ writer_entity roster peer.number m) first
+    (sym (writer_named roster peer kept s i k at)) in
+    let far : f.name.guid.entity ≡ reader_entity roster reader.peer reader.number =
+    subst (λ (e : Endpoint). f.name.guid.entity ≡ reader_entity roster e.peer e.number) f.is
+    (named_reader roster (own_end peer.number i) f.name
+    (readers_named roster peer kept s i k at row f.name f.at).name_is) in
     let still : behind ≡ is_reader_behind w reader =
     is_behind w (peer.known.answered (suc i)) stands
     ∙ sym (behind_at w.readers reader row (length (writer_changes w)) there none) in
     let made : last ≡ length (writer_changes w) = is_last w (peer.known.answered (suc i)) stands in
-    let pair : IsPair config peer (suc i) reader (Some (pair_of k f.name.guid.entity behind last)) =
+    let pair : IsPair roster peer (suc i) reader (Some (pair_of k f.name.guid.entity behind last)) =
     (some_row w.readers reader row there, own, far, still, made) in
-    subst (λ (m : ℕ). IsPair config peer m reader (Some (pair_of k f.name.guid.entity behind last))) next pair
+    subst (λ (m : ℕ). IsPair roster peer m reader (Some (pair_of k f.name.guid.entity behind last))) next pair
 
 -- a reader has this number, and the writer is one of its matched writers, or is not
 
 pub no_place : (kept : PeerKept) (i number : ℕ) (k : ReaderKept) (writer : Endpoint) → number ≡ i + 1
     → slice_get kept.readers i ≡ Some k
     → ((j : ℕ) (n : WriterName) → slice_get k.writers j ≡ Some n → n.writer ≡ writer → ⊥)
-    → (config : Config) (peer : Peer) → StandsFor kept config peer
+    → (roster : Roster) (peer : Peer) → StandsFor kept roster peer
     → None ≡ place_of (own_proxies peer.part number) writer
-no_place kept i number k writer is at none config peer s =
+no_place kept i number k writer is at none roster peer s =
     let proxies : List WriterProxy = get_or peer.part.rtps.readers i [] in
     let names = (s.readers.each i k at).writers_are in
     let nobody : place_of proxies writer ≡ None =
@@ -191,9 +192,9 @@ no_place kept i number k writer is at none config peer s =
 
 pub place_found : (kept : PeerKept) (i number : ℕ) (k : ReaderKept) (writer : Endpoint) (row place : ℕ) → number ≡ i + 1
     → slice_get kept.readers i ≡ Some k → IsFirstRow k.writers writer row → ((t : Tracked) → IsPlaceAt k row t place)
-    → (config : Config) (peer : Peer) → StandsFor kept config peer
+    → (roster : Roster) (peer : Peer) → StandsFor kept roster peer
     → Some place ≡ place_of (own_proxies peer.part number) writer
-place_found kept i number k writer row place is at first is_place config peer s =
+place_found kept i number k writer row place is at first is_place roster peer s =
     let proxies : List WriterProxy = get_or peer.part.rtps.readers i [] in
     let stands = s.readers.each i k at in
     let here : IsFirstOf (proxied proxies) writer row =

@@ -1,14 +1,14 @@
 -- What a writer that is told of a reader, or that a reader has left, or at whose matches the application looks, does to
 -- a peer.
-use Rattle.std.proofs.Common.{◌≡◌, ◌≢◌, ◌⊎◌, ℕ, zero, suc, ◌+◌, ◌<◌, ◌==◌, ◌&&◌, Bool, true, false, not, eq-eqb, eqb-true, List, [], ◌∷◌, Option, None, Some, length, set, slice_get, refl, ap, sym, subst, ◌∙◌, arith, inl, inr, ⊎_elim, length-set}
+use Rattle.std.proofs.Common.{◌≡◌, ◌≢◌, ◌⊎◌, ℕ, zero, suc, ◌+◌, ◌<◌, ◌≤◌, ◌==◌, ◌&&◌, Bool, true, false, not, eq-eqb, eqb-true, List, [], ◌∷◌, Option, None, Some, length, map, set, slice_get, refl, ap, sym, subst, ◌∙◌, arith, inl, inr, ⊎_elim}
 use Rattle.std.specs.Prelude.{if◌then◌else◌}
-use Rattle.std.proofs.lemmas.List.{length-map}
 use Rattle.std.proofs.lemmas.Option.{same_Some}
 use Rattle.dds_base.specs.declared.code.Code.{Code}
 use Rattle.dds_base.specs.declared.code.Code.TheVariants.{BadParameter, Memory}
-use Rattle.dds_base.specs.declared.config.Config.{Config}
-use Rattle.dds_base.specs.declared.config.WriterConfig.{WriterConfig}
+use Rattle.dds_protocol.specs.Roster.{Roster}
 use Rattle.dds_base.specs.declared.endpoint.Endpoint.{Endpoint}
+use Rattle.dds_base.specs.declared.guid.EntityId.{EntityId}
+use Rattle.dds_base.specs.Bounds.{greatest_value}
 use Rattle.dds_base.specs.declared.status.MatchedStatus.{MatchedStatus}
 use Rattle.dds_base.specs.Refusal.{Refuses}
 use Rattle.dds_machine.specs.declared.call.Call.TheVariants as call
@@ -47,59 +47,67 @@ put_or_there (a ∷ xs) (suc i) zero x y at = inr at
 put_or_there (a ∷ xs) (suc i) (suc j) x y at =
     ⊎_elim (λ f. inl (ap suc f.0, f.1)) (λ f. inr f) (put_or_there xs i j x y at)
 
--- another writer of the configuration in the place of one
-peer_of_writer : (kept : PeerKept) (i : ℕ) (k k' : WriterKept) (config : Config) (number : ℕ)
-    → slice_get kept.writers i ≡ Some k
-    → ((w : WriterConfig) → IsWriterOf config.peers w (writer_identity k)
-    → IsWriterOf config.peers w (writer_identity k'))
-    → IsPeerOf config number (identity_of kept) → IsPeerOf config number (identity_of (with_writer kept i k'))
-peer_of_writer kept i k k' config number at still is = record {
-  roster = is.roster;
-  own = is.own;
-  at = is.at;
-  prefix = is.prefix;
-  count =
-      length-map (set kept.writers i k') writer_identity
-      ∙ (length-set kept.writers i k' ∙ (sym (length-map kept.writers writer_identity) ∙ is.count));
-  writers = λ j w x at_w at_x.
-      let f = get-map writer_identity (set kept.writers i k') j x at_x in
-      ⊎_elim
-      (λ here.
-      subst (λ (y : WriterIdentity). IsWriterOf config.peers w y) (ap writer_identity here.1 ∙ f.2)
-      (still w (is.writers i w (writer_identity k) (ap (λ (n : ℕ). slice_get is.own.writers n) here.0 ∙ at_w)
-      (map-get writer_identity kept.writers i k at))))
-      (λ there.
-      is.writers j w x at_w
-      (map-get writer_identity kept.writers j f.0 there ∙ ap (λ (y : WriterIdentity). Some y) f.2))
-      (put_or_there kept.writers i j k' f.0 f.1);
-  reader_count = is.reader_count;
-  readers = is.readers;
-  once = is.once;
-}
+-- what is so of each writer is so with another one in the place of one, of which it is so
+each_of : (kept : PeerKept) (i : ℕ) (k' : WriterKept) (Is : ℕ → WriterIdentity → Type 0) → Is i (writer_identity k')
+    → ((j : ℕ) (x : WriterIdentity) → slice_get (map writer_identity kept.writers) j ≡ Some x → Is j x)
+    → (j : ℕ) (x : WriterIdentity) → slice_get (map writer_identity (set kept.writers i k')) j ≡ Some x → Is j x
+each_of kept i k' Is here each j x at_x =
+    let f = get-map writer_identity (set kept.writers i k') j x at_x in
+    ⊎_elim
+    (λ it. subst (λ (n : ℕ). Is n x) it.0
+    (subst (λ (y : WriterIdentity). Is i y) (ap writer_identity it.1 ∙ f.2) here))
+    (λ there. each j x
+    (map-get writer_identity kept.writers j f.0 there ∙ ap (λ (y : WriterIdentity). Some y) f.2))
+    (put_or_there kept.writers i j k' f.0 f.1)
+
+-- the peer's writer of this index, by its number
+abbrev writer_end : ℕ → ℕ → Endpoint
+writer_end number i = record { peer = number; number = i + 1 }
+
+-- another writer of the roster in the place of one, whose values may be as long
+peer_of_writer : (kept : PeerKept) (i : ℕ) (k k' : WriterKept) (roster : Roster) (number : ℕ)
+    → slice_get kept.writers i ≡ Some k → k'.max_value ≡ k.max_value
+    → (IsWriterOf roster (writer_end number i) (writer_identity k)
+    → IsWriterOf roster (writer_end number i) (writer_identity k'))
+    → IsPeerOf roster number (identity_of kept) → IsPeerOf roster number (identity_of (with_writer kept i k'))
+peer_of_writer kept i k k' roster number at long still is =
+    let was : slice_get (map writer_identity kept.writers) i ≡ Some (writer_identity k) =
+    map-get writer_identity kept.writers i k at in
+    record {
+      is_roster = is.is_roster;
+      prefix = is.prefix;
+      writers = each_of kept i k' (λ j x. IsWriterOf roster (writer_end number j) x)
+          (still (is.writers i (writer_identity k) was)) is.writers;
+      limited = each_of kept i k' (λ j x. x.max_value ≤ greatest_value)
+          (subst (λ (most : ℕ). most ≤ greatest_value) (sym long) (is.limited i (writer_identity k) was)) is.limited;
+      readers = is.readers;
+      once = is.once;
+    }
 
 -- ---- the end of that number
 
--- a peer with another writer of this index, which is one of the configuration as it was
-told : (kept : PeerKept) (i : ℕ) (k k' : WriterKept) (config : Config) (peer : Peer) → StandsFor kept config peer
-    → slice_get kept.writers i ≡ Some k
-    → ((w : WriterConfig) → IsWriterOf config.peers w (writer_identity k)
-    → IsWriterOf config.peers w (writer_identity k'))
+-- a peer with another writer of this index, which is one of the roster as it was
+told : (kept : PeerKept) (i : ℕ) (k k' : WriterKept) (roster : Roster) (peer : Peer) → StandsFor kept roster peer
+    → slice_get kept.writers i ≡ Some k → k'.max_value ≡ k.max_value
+    → (IsWriterOf roster (writer_end peer.number i) (writer_identity k)
+    → IsWriterOf roster (writer_end peer.number i) (writer_identity k'))
     → (w : Writer) (answered : ℕ → Endpoint → Contact) → WriterStands k' w (answered (suc i))
     → ((j : ℕ) → (j ≡ i → ⊥) → (r : Endpoint) → answered (suc j) r ≡ peer.known.answered (suc j) r)
     → writer_changes w ≡ writer_changes (own_writer peer.part (suc i))
-    → StandsFor (with_writer kept i k') config
+    → StandsFor (with_writer kept i k') roster
     (record peer { part = at_writer peer.part (suc i) w; known = record peer.known { answered = answered } })
-told kept i k k' config peer s at still w answered stands others same =
-    own_writer_put config peer kept s i k k' at (peer_of_writer kept i k k' config peer.number at still s.is_peer) w
+told kept i k k' roster peer s at long still w answered stands others same =
+    own_writer_put roster peer kept s i k k' at
+    (peer_of_writer kept i k k' roster peer.number at long still s.is_peer) w
     answered stands others (tellable_put peer.part (suc i) w s.tellable same)
 
 -- ---- a reader that comes
 
-joins : (kept : PeerKept) (i : ℕ) (k k' : WriterKept) (reader : Endpoint) (greeted : Bool) (config : Config)
-    (peer : Peer) → StandsFor kept config peer → slice_get kept.writers i ≡ Some k
+joins : (kept : PeerKept) (i : ℕ) (k k' : WriterKept) (reader : Endpoint) (greeted : Bool) (roster : Roster)
+    (peer : Peer) → StandsFor kept roster peer → slice_get kept.writers i ≡ Some k
     → RefusesSo joining_refusal k reader (λ refusal. refusal ≡ None) → Joins k reader greeted k'
-    → Follows (with_writer kept i k') config peer (event.Call (call.MatchReader (suc i) reader greeted)) (silent Done)
-joins kept i k k' reader greeted config peer s at accepted j =
+    → Follows (with_writer kept i k') roster peer (event.Call (call.MatchReader (suc i) reader greeted)) (silent Done)
+joins kept i k k' reader greeted roster peer s at accepted j =
     let w : Writer = own_writer peer.part (suc i) in
     let stands = s.writers.each i k at in (
       record peer {
@@ -115,13 +123,13 @@ joins kept i k k' reader greeted config peer s at accepted j =
         );
         sent = λ p x m h. absurd (omega (arith, m.1));
       },
-      told kept i k k' config peer s at
-          (λ c is. record {
-            entity = j.same.entity ∙ is.entity;
-            autodispose = j.same.autodispose ∙ is.autodispose;
-            max_value = j.same.max_value ∙ is.max_value;
-            known = subst (λ (ks : List TopicName). AreKnownReaders config.peers c.topic ks) (sym j.same.known) is.known;
-            ends = j.ends config.peers c.topic is.known is.ends;
+      told kept i k k' roster peer s at j.same.max_value
+          (λ is. record {
+            entity = is.entity ∙ ap (λ (e : EntityId). Some e) (sym j.same.entity);
+            known =
+                subst (λ (ks : List TopicName). AreKnownReaders roster (writer_end peer.number i) ks)
+                (sym j.same.known) is.known;
+            ends = j.ends roster (writer_end peer.number i) is.known is.ends;
           }) (joined w reader (knows_reliable w reader)) known.answered
           (writer_stands_on k' (joined w reader (knows_reliable w reader))
           (matched_anew (peer.known.answered (suc i)) reader met.silent) (known.answered (suc i))
@@ -153,40 +161,40 @@ joins kept i k k' reader greeted config peer s at accepted j =
     other n false is apart = is
 
 pub joins_at : (kept : PeerKept) (writer i : ℕ) (k k' : WriterKept) (reader : Endpoint) (greeted : Bool)
-    (config : Config) (peer : Peer)
-    → StandsFor kept config peer → writer ≡ i + 1 → slice_get kept.writers i ≡ Some k
+    (roster : Roster) (peer : Peer)
+    → StandsFor kept roster peer → writer ≡ i + 1 → slice_get kept.writers i ≡ Some k
     → RefusesSo joining_refusal k reader (λ refusal. refusal ≡ None) → Joins k reader greeted k'
-    → Follows (with_writer kept i k') config peer (event.Call (call.MatchReader writer reader greeted)) (silent Done)
-joins_at kept writer i k k' reader greeted config peer s is at accepted j =
-    subst (λ (n : ℕ). Follows (with_writer kept i k') config peer (event.Call (call.MatchReader n reader greeted))
-    (silent Done)) (number_is writer i is) (joins kept i k k' reader greeted config peer s at accepted j)
+    → Follows (with_writer kept i k') roster peer (event.Call (call.MatchReader writer reader greeted)) (silent Done)
+joins_at kept writer i k k' reader greeted roster peer s is at accepted j =
+    subst (λ (n : ℕ). Follows (with_writer kept i k') roster peer (event.Call (call.MatchReader n reader greeted))
+    (silent Done)) (number_is writer i is) (joins kept i k k' reader greeted roster peer s at accepted j)
 
 -- one that is refused
-refused_join : (kept : PeerKept) (writer : ℕ) (reader : Endpoint) (greeted : Bool) (code : Code) (config : Config)
+refused_join : (kept : PeerKept) (writer : ℕ) (reader : Endpoint) (greeted : Bool) (code : Code) (roster : Roster)
     (peer : Peer)
-    → StandsFor kept config peer → Refuses (joining_refusal (own_writer peer.part writer) reader) code
-    → Follows kept config peer (event.Call (call.MatchReader writer reader greeted)) (silent (Refused code))
-refused_join kept writer reader greeted code config peer s refuses =
-    refused_call kept config peer s (call.MatchReader writer reader greeted) code (refuses, λ memory. tt, refl)
+    → StandsFor kept roster peer → Refuses (joining_refusal (own_writer peer.part writer) reader) code
+    → Follows kept roster peer (event.Call (call.MatchReader writer reader greeted)) (silent (Refused code))
+refused_join kept writer reader greeted code roster peer s refuses =
+    refused_call kept roster peer s (call.MatchReader writer reader greeted) code (refuses, λ memory. tt, refl)
 
 pub joins_not : (kept : PeerKept) (writer i : ℕ) (k k' : WriterKept) (reader : Endpoint) (greeted : Bool) (code : Code)
-    (config : Config) (peer : Peer) → StandsFor kept config peer → writer ≡ i + 1 → slice_get kept.writers i ≡ Some k
+    (roster : Roster) (peer : Peer) → StandsFor kept roster peer → writer ≡ i + 1 → slice_get kept.writers i ≡ Some k
     → RefusesSo joining_refusal k reader (λ refusal. Refuses refusal code) → k' ≡ k
-    → Follows (with_writer kept i k') config peer (event.Call (call.MatchReader writer reader greeted)) (silent (Refused code))
-joins_not kept writer i k k' reader greeted code config peer s is at refused same =
-    subst (λ (x : PeerKept). Follows x config peer (event.Call (call.MatchReader writer reader greeted))
+    → Follows (with_writer kept i k') roster peer (event.Call (call.MatchReader writer reader greeted)) (silent (Refused code))
+joins_not kept writer i k k' reader greeted code roster peer s is at refused same =
+    subst (λ (x : PeerKept). Follows x roster peer (event.Call (call.MatchReader writer reader greeted))
     (silent (Refused code))) (sym (unchanged_with kept i k k' at same))
-    (refused_join kept writer reader greeted code config peer s
+    (refused_join kept writer reader greeted code roster peer s
     (subst (λ (n : ℕ). Refuses (joining_refusal (own_writer peer.part n) reader) code) (number_is writer i is)
     (refused (own_writer peer.part (suc i)) (peer.known.answered (suc i)) (s.writers.each i k at))))
 
 -- ---- a reader that leaves
 
-leaves : (kept : PeerKept) (i : ℕ) (k k' : WriterKept) (reader : Endpoint) (config : Config) (peer : Peer)
-    → StandsFor kept config peer → slice_get kept.writers i ≡ Some k
+leaves : (kept : PeerKept) (i : ℕ) (k k' : WriterKept) (reader : Endpoint) (roster : Roster) (peer : Peer)
+    → StandsFor kept roster peer → slice_get kept.writers i ≡ Some k
     → RefusesSo leaving_refusal k reader (λ refusal. refusal ≡ None) → Leaves k reader k'
-    → Follows (with_writer kept i k') config peer (event.Call (call.UnmatchReader (suc i) reader)) (silent Done)
-leaves kept i k k' reader config peer s at accepted l =
+    → Follows (with_writer kept i k') roster peer (event.Call (call.UnmatchReader (suc i) reader)) (silent Done)
+leaves kept i k k' reader roster peer s at accepted l =
     let w : Writer = own_writer peer.part (suc i) in
     let stands = s.writers.each i k at in (
       record peer { part = at_writer peer.part (suc i) (left w reader) },
@@ -199,53 +207,53 @@ leaves kept i k k' reader config peer s at accepted l =
         );
         sent = λ p x m h. absurd (omega (arith, m.1));
       },
-      told kept i k k' config peer s at
-          (λ c is. record {
-            entity = l.same.entity ∙ is.entity;
-            autodispose = l.same.autodispose ∙ is.autodispose;
-            max_value = l.same.max_value ∙ is.max_value;
-            known = subst (λ (ks : List TopicName). AreKnownReaders config.peers c.topic ks) (sym l.same.known) is.known;
-            ends = l.ends config.peers c.topic is.ends;
+      told kept i k k' roster peer s at l.same.max_value
+          (λ is. record {
+            entity = is.entity ∙ ap (λ (e : EntityId). Some e) (sym l.same.entity);
+            known =
+                subst (λ (ks : List TopicName). AreKnownReaders roster (writer_end peer.number i) ks)
+                (sym l.same.known) is.known;
+            ends = l.ends roster (writer_end peer.number i) is.ends;
           }) (left w reader) peer.known.answered (l.stands w (peer.known.answered (suc i)) stands)
           (λ j apart e. refl) refl,
     )
 
-pub leaves_at : (kept : PeerKept) (writer i : ℕ) (k k' : WriterKept) (reader : Endpoint) (config : Config) (peer : Peer)
-    → StandsFor kept config peer → writer ≡ i + 1 → slice_get kept.writers i ≡ Some k
+pub leaves_at : (kept : PeerKept) (writer i : ℕ) (k k' : WriterKept) (reader : Endpoint) (roster : Roster) (peer : Peer)
+    → StandsFor kept roster peer → writer ≡ i + 1 → slice_get kept.writers i ≡ Some k
     → RefusesSo leaving_refusal k reader (λ refusal. refusal ≡ None) → Leaves k reader k'
-    → Follows (with_writer kept i k') config peer (event.Call (call.UnmatchReader writer reader)) (silent Done)
-leaves_at kept writer i k k' reader config peer s is at accepted l =
-    subst (λ (n : ℕ). Follows (with_writer kept i k') config peer (event.Call (call.UnmatchReader n reader))
-    (silent Done)) (number_is writer i is) (leaves kept i k k' reader config peer s at accepted l)
+    → Follows (with_writer kept i k') roster peer (event.Call (call.UnmatchReader writer reader)) (silent Done)
+leaves_at kept writer i k k' reader roster peer s is at accepted l =
+    subst (λ (n : ℕ). Follows (with_writer kept i k') roster peer (event.Call (call.UnmatchReader n reader))
+    (silent Done)) (number_is writer i is) (leaves kept i k k' reader roster peer s at accepted l)
 
 -- one that is refused
-refused_leave : (kept : PeerKept) (writer : ℕ) (reader : Endpoint) (code : Code) (config : Config) (peer : Peer)
-    → StandsFor kept config peer → leaving_refusal (own_writer peer.part writer) reader ≡ Some code → code ≢ Memory
-    → Follows kept config peer (event.Call (call.UnmatchReader writer reader)) (silent (Refused code))
-refused_leave kept writer reader code config peer s refuses never =
-    refused_call kept config peer s (call.UnmatchReader writer reader) code
+refused_leave : (kept : PeerKept) (writer : ℕ) (reader : Endpoint) (code : Code) (roster : Roster) (peer : Peer)
+    → StandsFor kept roster peer → leaving_refusal (own_writer peer.part writer) reader ≡ Some code → code ≢ Memory
+    → Follows kept roster peer (event.Call (call.UnmatchReader writer reader)) (silent (Refused code))
+refused_leave kept writer reader code roster peer s refuses never =
+    refused_call kept roster peer s (call.UnmatchReader writer reader) code
     (subst (λ (o : Option Code). Refuses o code) (sym refuses) refl, λ memory. never memory, refl)
 
 pub leaves_not : (kept : PeerKept) (writer i : ℕ) (k k' : WriterKept) (reader : Endpoint) (code : Code)
-    (config : Config) (peer : Peer) → StandsFor kept config peer → writer ≡ i + 1 → slice_get kept.writers i ≡ Some k
+    (roster : Roster) (peer : Peer) → StandsFor kept roster peer → writer ≡ i + 1 → slice_get kept.writers i ≡ Some k
     → RefusesSo leaving_refusal k reader (λ refusal. refusal ≡ Some code) → code ≢ Memory → k' ≡ k
-    → Follows (with_writer kept i k') config peer (event.Call (call.UnmatchReader writer reader)) (silent (Refused code))
-leaves_not kept writer i k k' reader code config peer s is at refused never same =
-    subst (λ (x : PeerKept). Follows x config peer (event.Call (call.UnmatchReader writer reader))
+    → Follows (with_writer kept i k') roster peer (event.Call (call.UnmatchReader writer reader)) (silent (Refused code))
+leaves_not kept writer i k k' reader code roster peer s is at refused never same =
+    subst (λ (x : PeerKept). Follows x roster peer (event.Call (call.UnmatchReader writer reader))
     (silent (Refused code))) (sym (unchanged_with kept i k k' at same))
-    (refused_leave kept writer reader code config peer s
+    (refused_leave kept writer reader code roster peer s
     (subst (λ (n : ℕ). leaving_refusal (own_writer peer.part n) reader ≡ Some code) (number_is writer i is)
     (refused (own_writer peer.part (suc i)) (peer.known.answered (suc i)) (s.writers.each i k at))) never)
 
 -- ---- a look
 
-looks : (kept : PeerKept) (i : ℕ) (k k' : WriterKept) (status : MatchedStatus) (config : Config) (peer : Peer)
-    → StandsFor kept config peer → slice_get kept.writers i ≡ Some k → i < length kept.writers
+looks : (kept : PeerKept) (i : ℕ) (k k' : WriterKept) (status : MatchedStatus) (roster : Roster) (peer : Peer)
+    → StandsFor kept roster peer → slice_get kept.writers i ≡ Some k → i < length kept.writers
     → ((w : Writer) (answered : Endpoint → Contact) → WriterStands k w answered → status ≡ publication_matched w)
     → LooksAtMatches k k'
-    → Follows (with_writer kept i k') config peer (event.Call (call.GetPublicationMatched (suc i)))
+    → Follows (with_writer kept i k') roster peer (event.Call (call.GetPublicationMatched (suc i)))
     (silent (Matched status))
-looks kept i k k' status config peer s at lt tells look =
+looks kept i k k' status roster peer s at lt tells look =
     let count = s.writers.count in
     let w : Writer = own_writer peer.part (suc i) in
     let stands = s.writers.each i k at in
@@ -267,18 +275,18 @@ looks kept i k k' status config peer s at lt tells look =
         );
         sent = λ p x m h. absurd (omega (arith, m.1));
       },
-      writer_put config peer kept s i k k' at look.same (writer_looked_at w) peer.known.answered
+      writer_put roster peer kept s i k k' at look.same (writer_looked_at w) peer.known.answered
           (look.stands w (peer.known.answered (suc i)) stands) (λ j apart r. refl)
           (tellable_put peer.part (suc i) (writer_looked_at w) s.tellable refl),
     )
 
-pub matches_looked_at : (kept : PeerKept) (writer i : ℕ) (k k' : WriterKept) (status : MatchedStatus) (config : Config)
-    (peer : Peer) → StandsFor kept config peer → writer ≡ i + 1 → slice_get kept.writers i ≡ Some k
+pub matches_looked_at : (kept : PeerKept) (writer i : ℕ) (k k' : WriterKept) (status : MatchedStatus) (roster : Roster)
+    (peer : Peer) → StandsFor kept roster peer → writer ≡ i + 1 → slice_get kept.writers i ≡ Some k
     → i < length kept.writers
     → ((w : Writer) (answered : Endpoint → Contact) → WriterStands k w answered → status ≡ publication_matched w)
     → LooksAtMatches k k'
-    → Follows (with_writer kept i k') config peer (event.Call (call.GetPublicationMatched writer))
+    → Follows (with_writer kept i k') roster peer (event.Call (call.GetPublicationMatched writer))
     (silent (Matched status))
-matches_looked_at kept writer i k k' status config peer s is at lt tells look =
-    subst (λ (n : ℕ). Follows (with_writer kept i k') config peer (event.Call (call.GetPublicationMatched n))
-    (silent (Matched status))) (number_is writer i is) (looks kept i k k' status config peer s at lt tells look)
+matches_looked_at kept writer i k k' status roster peer s is at lt tells look =
+    subst (λ (n : ℕ). Follows (with_writer kept i k') roster peer (event.Call (call.GetPublicationMatched n))
+    (silent (Matched status))) (number_is writer i is) (looks kept i k k' status roster peer s at lt tells look)

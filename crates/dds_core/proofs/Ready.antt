@@ -1,5 +1,5 @@
 -- What is made ready for each reader.
-use Rattle.std.proofs.Common.{◌≡◌, ◌⊎◌, ℕ, zero, suc, ◌+◌, ◌<◌, ◌≤◌, Bool, List, [], ◌∷◌, ◌++◌, Option, Some, None, IfSome, set, drop, map, length, slice_get, get_or, refl, ap, sym, ◌∙◌, subst, arith, inl, inr, ⊎_elim, length-set}
+use Rattle.std.proofs.Common.{◌≡◌, ℕ, zero, suc, ◌+◌, ◌<◌, ◌≤◌, Bool, List, [], ◌∷◌, ◌++◌, Option, Some, None, IfSome, set, drop, map, length, slice_get, get_or, refl, ap, sym, ◌∙◌, subst, arith, inl, inr, ⊎_elim, length-set}
 use Rattle.std.proofs.lemmas.Option.{same_Some, slice_get-get_or, get_or_from_slice_get}
 use Rattle.dds_base.specs.declared.guid.GuidPrefix.{GuidPrefix}
 use Rattle.dds_base.specs.declared.guid.EntityId.{EntityId}
@@ -276,12 +276,12 @@ same_identities (a ∷ as') (b ∷ bs) h =
 
 pub alike_core : (kept : PeerKept) (readers : List ReaderKept) → AreAlike kept.readers readers
     → StandsAsWell kept (record kept { readers = readers })
-alike_core kept readers h config peer s =
+alike_core kept readers h roster peer s =
     let identity : List ReaderIdentity → Identity =
     λ rs. record { prefix = kept.prefix; writers = map writer_identity kept.writers; readers = rs } in
     record {
       is_peer =
-          subst (λ (x : Identity). IsPeerOf config peer.number x)
+          subst (λ (x : Identity). IsPeerOf roster peer.number x)
           (sym (ap identity (same_identities kept.readers readers h))) s.is_peer;
       moment = s.moment;
       early = s.early;

@@ -1,17 +1,16 @@
 -- What is remembered of conditions that found nothing is right in each state that a peer stands for, and stays so.
-use Rattle.std.proofs.Common.{◌≡◌, ℕ, zero, suc, ◌+◌, ◌≤◌, List, [], length, get_or, Bool, false, refl, ap, sym, ◌∙◌, subst, arith, ⊎_elim}
+use Rattle.std.proofs.Common.{◌≡◌, ℕ, zero, suc, ◌≤◌, List, [], length, get_or, Bool, false, refl, ap, sym, ◌∙◌, subst, arith, ⊎_elim}
 use Rattle.std.specs.Prelude.{All, Contains, Option, Result, Ok, Err, IfOk, OnErr}
 use Rattle.std.proofs.lemmas.List.{get_or_past}
 use Rattle.std.proofs.lemmas.List.Elements.{All-nil}
 use Rattle.std.proofs.lemmas.Option.{slice_get_cases}
-use Rattle.dds_base.specs.declared.config.Config.{Config}
+use Rattle.dds_protocol.specs.Roster.{Roster}
 use Rattle.dds_base.specs.declared.entity.Entity.{Entity}
 use Rattle.dds_base.specs.declared.happening.Happening.{Happening}
 use Rattle.dds_base.specs.declared.key.Key.{Key}
 use Rattle.dds_base.specs.declared.mask.Masks.{Masks}
 use Rattle.dds_base.specs.declared.qos.ReaderQos.{ReaderQos}
 use Rattle.dds_base.specs.Access.{has_match}
-use Rattle.dds_cache.specs.Standing.{qos_of}
 use Rattle.dds_cache.proofs.SameLaws.{counts-alike, matches-alike}
 use Rattle.dds_conditions.specs.Filtered.{tests_of}
 use Rattle.dds_notices.specs.declared.mask.StatusMask.{StatusMask}
@@ -50,21 +49,21 @@ all_added P old miss new before one adds = λ k d within.
 
 -- one of them is right
 pub right_of : (tests : Tests) (kept : PeerKept) (misses : List Miss) (miss : Miss) → AreMisses tests kept misses
-    → Contains misses miss → (config : Config) (peer : Peer) → StandsFor kept config peer → IsMiss tests peer.part miss
-right_of tests kept misses miss right among config peer s =
-    all_of (IsMiss tests peer.part) misses miss (right config peer s) among
+    → Contains misses miss → (roster : Roster) (peer : Peer) → StandsFor kept roster peer → IsMiss tests peer.part miss
+right_of tests kept misses miss right among roster peer s =
+    all_of (IsMiss tests peer.part) misses miss (right roster peer s) among
 
 -- one more that is right is remembered
 pub right_added : (tests : Tests) (kept : PeerKept) (old : List Miss) (miss : Miss) (new : List Miss)
     → AreMisses tests kept old
-    → ((config : Config) (peer : Peer) → StandsFor kept config peer → IsMiss tests peer.part miss)
+    → ((roster : Roster) (peer : Peer) → StandsFor kept roster peer → IsMiss tests peer.part miss)
     → AddsMiss old miss new → AreMisses tests kept new
-right_added tests kept old miss new right one adds = λ config peer s.
-    all_added (IsMiss tests peer.part) old miss new (right config peer s) (one config peer s) adds
+right_added tests kept old miss new right one adds = λ roster peer s.
+    all_added (IsMiss tests peer.part) old miss new (right roster peer s) (one roster peer s) adds
 
 -- where none is remembered, each is right
 pub right_of_none : (tests : Tests) (kept : PeerKept) (misses : List Miss) → misses ≡ [] → AreMisses tests kept misses
-right_of_none tests kept misses none = λ config peer s.
+right_of_none tests kept misses none = λ roster peer s.
     subst (λ (ms : List Miss). All (IsMiss tests peer.part) ms) (sym none) (All-nil (IsMiss tests peer.part))
 
 -- a condition that found nothing did so, as the newest entry stands
@@ -96,10 +95,10 @@ alike_kept kept rows others a b first second s t = record {
       ∙ sym (ap (λ (q : ReaderQos). has_match q b.happened masks test) t.qos_is));
 }
 
-readers_alike : (kept : PeerKept) (config other_config : Config) (peer other : Peer) → StandsFor kept config peer
-    → StandsFor kept other_config other → (n : ℕ) → AreAlike (own_reader peer.part n) (own_reader other.part n)
-readers_alike kept config other_config peer other s t zero = alike_same no_reader
-readers_alike kept config other_config peer other s t (suc i) =
+readers_alike : (kept : PeerKept) (roster other_roster : Roster) (peer other : Peer) → StandsFor kept roster peer
+    → StandsFor kept other_roster other → (n : ℕ) → AreAlike (own_reader peer.part n) (own_reader other.part n)
+readers_alike kept roster other_roster peer other s t zero = alike_same no_reader
+readers_alike kept roster other_roster peer other s t (suc i) =
     ⊎_elim
     (λ there. alike_kept there.0 _ _ _ _ _ _ (s.readers.each i there.0 there.2) (t.readers.each i there.0 there.2))
     (λ past.
@@ -113,13 +112,13 @@ readers_alike kept config other_config peer other s t (suc i) =
     (slice_get_cases kept.readers i).1
 
 -- what is right in one of the states is right in each
-pub everywhere : (tests : Tests) (kept : PeerKept) (config : Config) (peer : Peer) (misses : List Miss)
-    → StandsFor kept config peer → All (IsMiss tests peer.part) misses → AreMisses tests kept misses
-everywhere tests kept config peer misses s right = λ other_config other t k d within.
+pub everywhere : (tests : Tests) (kept : PeerKept) (roster : Roster) (peer : Peer) (misses : List Miss)
+    → StandsFor kept roster peer → All (IsMiss tests peer.part) misses → AreMisses tests kept misses
+everywhere tests kept roster peer misses s right = λ other_roster other t k d within.
     let miss : Miss = get_or misses k d in
     let is : IsMiss tests peer.part miss = right k d within in
     let alike : AreAlike (own_reader peer.part miss.reader) (own_reader other.part miss.reader) =
-    readers_alike kept config other_config peer other s t miss.reader in
+    readers_alike kept roster other_roster peer other s t miss.reader in
     record {
       past = subst (λ (n : ℕ). miss.entries ≤ n) alike.count is.past;
       none = λ same. sym (alike.matches miss.masks (test_of tests miss.filter)) ∙ is.none (alike.count ∙ same);
@@ -151,7 +150,7 @@ module _ {F L : Type 0} (notices : L → List Notice) (capacity : L → ℕ) (be
   pub are_right : (kept : CoreKept F L) (misses : List Miss) → Remembers notices capacity becomes meaning kept misses
       → AreMisses (tests_of meaning kept.filtered.filters) kept.filtered.peer misses
   are_right kept misses r =
-      everywhere (tests_of meaning kept.filtered.filters) kept.filtered.peer r.config r.peer misses
+      everywhere (tests_of meaning kept.filtered.filters) kept.filtered.peer r.roster r.peer misses
       r.stands.stands.stands r.right
 
   -- what was right before an event, and is remembered after it
@@ -162,11 +161,11 @@ module _ {F L : Type 0} (notices : L → List Notice) (capacity : L → ℕ) (be
       → Remembers notices capacity becomes meaning new misses
   remembers_on old before misses ev output new r right h =
       let tests : Tests = tests_of meaning old.filtered.filters in
-      let s = h.step r.given r.config r.peer r.stands r.sound in
+      let s = h.step r.given r.roster r.peer r.stands r.sound in
       let stepped : Peer = s.0 in
       record {
         given = r.given;
-        config = r.config;
+        roster = r.roster;
         peer = peer_at_end r.peer stepped;
         stands = s.3;
         sound = s.4;
@@ -177,8 +176,8 @@ module _ {F L : Type 0} (notices : L → List Notice) (capacity : L → ℕ) (be
             let miss : Miss = get_or misses k d in
             still_nothing tests stepped.part (at_end r.peer.part stepped.part) miss
             (still_nothing tests r.peer.part stepped.part miss
-            (right r.config r.peer r.stands.stands.stands k d within)
-            (each_goes_on r.config tests r.peer ev output stepped s.1 miss.reader))
+            (right r.roster r.peer r.stands.stands.stands k d within)
+            (each_goes_on r.roster tests r.peer ev output stepped s.1 miss.reader))
             (end_goes_on r.peer.part stepped.part miss.reader));
       }
 
@@ -187,10 +186,10 @@ module _ {F L : Type 0} (notices : L → List Notice) (capacity : L → ℕ) (be
       → Remembers notices capacity becomes meaning old before
       → Adds notices capacity becomes old filter number new → Remembers notices capacity becomes meaning new []
   remembers_filter old before filter number new r h =
-      let s = h.adds r.given r.config r.peer r.stands in
+      let s = h.adds r.given r.roster r.peer r.stands in
       record {
         given = r.given;
-        config = r.config;
+        roster = r.roster;
         peer = peer_with_filter r.peer;
         stands = s.2;
         sound = s.3 r.sound;
@@ -203,11 +202,11 @@ module _ {F L : Type 0} (notices : L → List Notice) (capacity : L → ℕ) (be
       → Sets notices capacity becomes old entity mask listener handed new
       → Remembers notices capacity becomes meaning new misses
   remembers_listener old misses entity mask listener handed new r h =
-      let s = h.sets r.given r.config r.peer r.stands in
+      let s = h.sets r.given r.roster r.peer r.stands in
       let after : Peer = peer_with_place r.peer entity (listener_place capacity mask listener) in
       record {
         given = with_entity r.given entity listener;
-        config = r.config;
+        roster = r.roster;
         peer = after;
         stands = s.2;
         sound = s.3 r.sound;
@@ -228,12 +227,12 @@ module _ {F L : Type 0} (notices : L → List Notice) (capacity : L → ℕ) (be
       subst (λ (k : CoreKept F L). Remembers notices capacity becomes meaning k misses) (sym err) r
 
   -- nothing is remembered at the opening
-  pub remembers_none : (given : ByEntity L) (kept : CoreKept F L) (config : Config) (peer : Peer)
-      → CoreStandsFor notices capacity becomes given kept config peer → IsSound config peer
+  pub remembers_none : (given : ByEntity L) (kept : CoreKept F L) (roster : Roster) (peer : Peer)
+      → CoreStandsFor notices capacity becomes given kept roster peer → IsSound roster peer
       → Remembers notices capacity becomes meaning kept []
-  remembers_none given kept config peer s sound = record {
+  remembers_none given kept roster peer s sound = record {
     given = given;
-    config = config;
+    roster = roster;
     peer = peer;
     stands = s;
     sound = sound;

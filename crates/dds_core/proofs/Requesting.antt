@@ -1,9 +1,9 @@
 -- The writer that an ACKNACK names answers its matched readers, one after the other, and the peer's other writers do
 -- nothing.
-use Rattle.std.proofs.Common.{◌≡◌, ℕ, zero, suc, ◌+◌, ◌<◌, Bool, List, [], ◌∷◌, ◌++◌, Option, Some, None, map, take, drop, set, length, get_or, slice_get, refl, ap, sym, ◌∙◌, subst, arith, inl, inr, append_assoc, append-nil, length-set}
+use Rattle.std.proofs.Common.{◌≡◌, ℕ, zero, suc, ◌+◌, ◌<◌, Bool, List, [], ◌∷◌, ◌++◌, Option, Some, None, map, take, drop, set, length, get_or, slice_get, refl, ap, sym, ◌∙◌, subst, arith, inr, append_assoc, append-nil, length-set}
 use Rattle.std.proofs.lemmas.List.{take_more, take_all}
 use Rattle.std.proofs.lemmas.Option.{get_or_from_slice_get}
-use Rattle.dds_base.specs.declared.config.Config.{Config}
+use Rattle.dds_protocol.specs.Roster.{Roster}
 use Rattle.dds_base.specs.declared.guid.EntityId.{EntityId}
 use Rattle.dds_base.specs.declared.guid.GuidPrefix.{GuidPrefix}
 use Rattle.dds_base.specs.Kept.{numbers_from}
@@ -16,7 +16,7 @@ use Rattle.dds_machine.specs.Part.{ReaderProxy, no_writer, own_writer}
 use Rattle.dds_protocol.specs.Peer.{Peer, state_of}
 use Rattle.dds_protocol.specs.DueMessages.{Due}
 use Rattle.dds_protocol.specs.Protocol.{State, InTurn, WriterTakes}
-use Rattle.dds_protocol.proofs.OwnGuids.{one_writer}
+use Rattle.dds_protocol.proofs.OneName.{one_writer}
 use Rattle.dds_ends.specs.declared.answering.Room.{Room}
 use Rattle.dds_ends.specs.declared.matching.ReaderName.{ReaderName}
 use Rattle.dds_core.specs.declared.effects.Effects.{Effects}
@@ -35,7 +35,8 @@ use Rattle.dds_ends.proofs.Beating.{adds_none, adds_on}
 use Rattle.dds_ends.proofs.Lists.{element, get-within}
 use Rattle.dds_core.proofs.Makes.{set_get}
 use Rattle.dds_ends.proofs.Alike.{partner}
-use Rattle.dds_core.proofs.RowsAnswered.{IsAtRow, IsOwn, RowAnswered, own_end, own_is, row_answered, row_idle, row_unasked, row_at}
+use Rattle.dds_core.proofs.Names.{own_end}
+use Rattle.dds_core.proofs.RowsAnswered.{IsAtRow, IsOwn, RowAnswered, own_is, row_answered, row_idle, row_unasked, row_at}
 use Rattle.dds_core.proofs.Turns.{number_at, turn_idle, turn_more}
 
 -- ---- turns in which nothing, or one alone, does something
@@ -114,7 +115,7 @@ rows_none old index a k rooms effects at_k = record {
   made = [];
   after_is = sym (append-nil effects.moves.items);
   takes =
-      λ at are config peer stands. record {
+      λ at are roster peer stands. record {
         state = state_of peer;
         dues = [];
         turn = (refl, refl, refl);
@@ -146,43 +147,43 @@ at_row k there i same lt =
 abbrev AnswersRow : PeerKept → ℕ → AckNackBody → WriterKept → ReaderName → Option Room → List Move → Announced
     → PeerKept → Announced → Type 0
 AnswersRow old index a k name room made sent new gone =
-    (config : Config) (peer : Peer) → StandsFor old config peer → (at : Receiver)
+    (roster : Roster) (peer : Peer) → StandsFor old roster peer → (at : Receiver)
     → IsRoom old.prefix k.entity at a name room
-    → RowAnswered config old.prefix at a (suc index) name.reader peer made sent new gone
+    → RowAnswered roster old.prefix at a (suc index) name.reader peer made sent new gone
 
 -- one row more was answered
 row_more : (old now new : PeerKept) (index : ℕ) (a : AckNackBody) (k : WriterKept) (rooms : List (Option Room)) (i : ℕ)
     (room : Option Room) (one : List Move) (effects mid after : Effects)
     → (h : TakesRows old index a k rooms i effects now mid) (r : IsAtRow k h.there i)
     → slice_get rooms i ≡ Some room → AnswersRow now index a h.there r.name room one mid.sent new after.sent
-    → (at : Receiver) → AreRooms old.prefix k.entity at a k.readers rooms → (config : Config) (peer : Peer)
-    → StandsFor old config peer
-    → RowsTook config old.prefix at a index (take (i + 1) k.readers) peer (h.made ++ one) effects.sent new after.sent
-row_more old now new index a k rooms i room one effects mid after h r there answers at are config peer stands =
+    → (at : Receiver) → AreRooms old.prefix k.entity at a k.readers rooms → (roster : Roster) (peer : Peer)
+    → StandsFor old roster peer
+    → RowsTook roster old.prefix at a index (take (i + 1) k.readers) peer (h.made ++ one) effects.sent new after.sent
+row_more old now new index a k rooms i room one effects mid after h r there answers at are roster peer stands =
     let sent = effects.sent in
     let went = mid.sent in
     let gone = after.sent in
-    let before : RowsTook config old.prefix at a index (take i k.readers) peer h.made sent now went =
-    h.takes at are config peer stands in
+    let before : RowsTook roster old.prefix at a index (take i k.readers) peer h.made sent now went =
+    h.takes at are roster peer stands in
     let entity : h.there.entity ≡ k.entity = ap (λ (x : WriterIdentity). x.entity) h.same in
     let is : IsRoom now.prefix h.there.entity at a r.name room =
     subst (λ (p : GuidPrefix). IsRoom p h.there.entity at a r.name room) (sym h.prefix)
     (subst (λ (e : EntityId). IsRoom old.prefix e at a r.name room) (sym entity)
     (are.each i r.name room r.was there)) in
-    let answered : RowAnswered config now.prefix at a (suc index) r.name.reader (with_state peer before.state) one went
-    new gone = answers config (with_state peer before.state) before.stands at is in
-    let takes : WriterTakes config old.prefix peer.number at a (suc index) r.name.reader before.state one answered.dues
+    let answered : RowAnswered roster now.prefix at a (suc index) r.name.reader (with_state peer before.state) one went
+    new gone = answers roster (with_state peer before.state) before.stands at is in
+    let takes : WriterTakes roster old.prefix peer.number at a (suc index) r.name.reader before.state one answered.dues
     answered.state =
-    subst (λ (p : GuidPrefix). WriterTakes config p peer.number at a (suc index) r.name.reader before.state one
+    subst (λ (p : GuidPrefix). WriterTakes roster p peer.number at a (suc index) r.name.reader before.state one
     answered.dues answered.state) h.prefix answered.takes in
     record {
       state = answered.state;
       dues = before.dues ++ answered.dues;
       turn =
           subst (λ (ns : List ReaderName). InTurn
-          (λ (n : ReaderName). WriterTakes config old.prefix peer.number at a (suc index) n.reader) ns (state_of peer)
+          (λ (n : ReaderName). WriterTakes roster old.prefix peer.number at a (suc index) n.reader) ns (state_of peer)
           (h.made ++ one) (before.dues ++ answered.dues) answered.state) (sym r.more)
-          (turn_more (λ (n : ReaderName). WriterTakes config old.prefix peer.number at a (suc index) n.reader)
+          (turn_more (λ (n : ReaderName). WriterTakes roster old.prefix peer.number at a (suc index) n.reader)
           (take i k.readers) r.name (state_of peer) before.state answered.state h.made one before.dues answered.dues
           before.turn takes);
       stands = answered.stands;
@@ -202,8 +203,8 @@ rows_skip old now index a k rooms i effects after h lt none =
       after_is = h.after_is ∙ ap (λ (ms : List Move). effects.moves.items ++ ms) (sym (append-nil h.made));
       takes =
           row_more old now now index a k rooms i None [] effects after after h r none
-          (λ config peer stands at not.
-          row_idle (row_at now index i k h.there h.at r config peer stands) at a after.sent not);
+          (λ roster peer stands at not.
+          row_idle (row_at now index i k h.there h.at r roster peer stands) at a after.sent not);
       there = h.there;
       at = h.at;
       same = h.same;
@@ -228,8 +229,8 @@ rows_more old now new index a k rooms i room effects mid after h lt is took =
           ∙ (ap (λ (ms : List Move). ms ++ made) h.after_is ∙ append_assoc effects.moves.items h.made made);
       takes =
           row_more old now new index a k rooms i (Some room) made effects mid after h r is
-          (λ config peer stands at from.
-          row_answered (row_at now index i k h.there h.at r config peer stands) at a from.0 mid.moves.items mid.sent new
+          (λ roster peer stands at from.
+          row_answered (row_at now index i k h.there h.at r roster peer stands) at a from.0 mid.moves.items mid.sent new
           after.moves.items after.sent t);
       there = t.writer;
       at = ap (λ (x : PeerKept). slice_get x.writers index) t.new_is ∙ set_get now.writers index h.there t.writer h.at;
@@ -241,18 +242,18 @@ rows_more old now new index a k rooms i room effects mid after h lt is took =
 -- ---- all writers
 
 -- each of the peer's writers but this one is not named
-abbrev IsNamedAlone : Config → Peer → PeerKept → Receiver → AckNackBody → ℕ → Type 0
-IsNamedAlone config peer kept at a index =
+abbrev IsNamedAlone : Roster → Peer → PeerKept → Receiver → AckNackBody → ℕ → Type 0
+IsNamedAlone roster peer kept at a index =
     (j : ℕ) → (j ≡ index → ⊥) → (e : Endpoint)
-    → IsToWriter config kept.prefix at a.reader_id a.writer_id (own_end peer j) e → ⊥
+    → IsToWriter roster kept.prefix at a.reader_id a.writer_id (own_end peer.number j) e → ⊥
 
-idle_writer : (config : Config) (peer : Peer) (own : GuidPrefix) (at : Receiver) (a : AckNackBody) (writer : ℕ)
+idle_writer : (roster : Roster) (peer : Peer) (own : GuidPrefix) (at : Receiver) (a : AckNackBody) (writer : ℕ)
     (rows : List ReaderProxy) (s : State)
-    → ((e : Endpoint) → IsToWriter config own at a.reader_id a.writer_id
+    → ((e : Endpoint) → IsToWriter roster own at a.reader_id a.writer_id
     (record { peer = peer.number; number = writer }) e → ⊥)
-    → InTurn (λ (p : ReaderProxy). WriterTakes config own peer.number at a writer p.reader) rows s [] [] s
-idle_writer config peer own at a writer rows s not =
-    turn_idle (λ (p : ReaderProxy). WriterTakes config own peer.number at a writer p.reader) rows s
+    → InTurn (λ (p : ReaderProxy). WriterTakes roster own peer.number at a writer p.reader) rows s [] [] s
+idle_writer roster peer own at a writer rows s not =
+    turn_idle (λ (p : ReaderProxy). WriterTakes roster own peer.number at a writer p.reader) rows s
     (λ k p there. inr ((λ to. absurd (not p.reader to)), (inr ((λ r. not p.reader r.is), refl), refl, refl)))
 
 -- the writer of this index took it up, once room was made for the moves, and no other one has to
@@ -265,50 +266,46 @@ pub writer_takes : (old new : PeerKept) (index : ℕ) (a : AckNackBody) (k : Wri
 writer_takes old new index a k rooms at effects moves after same at_k entity are all = record {
   made = h.made;
   after_is = h.after_is ∙ ap (λ (ms : List Move). ms ++ h.made) same;
-  takes = λ config peer stands.
+  takes = λ roster peer stands.
       let sent = effects.sent in
       let gone = after.sent in
-      let r : RowsTook config old.prefix at a index (take (length k.readers) k.readers) peer h.made sent new gone =
-      h.takes at are config peer stands in
-      let named : InTurn (λ (n : ReaderName). WriterTakes config old.prefix peer.number at a (suc index) n.reader)
+      let r : RowsTook roster old.prefix at a index (take (length k.readers) k.readers) peer h.made sent new gone =
+      h.takes at are roster peer stands in
+      let named : InTurn (λ (n : ReaderName). WriterTakes roster old.prefix peer.number at a (suc index) n.reader)
       k.readers (state_of peer) h.made r.dues r.state =
       subst (λ (ns : List ReaderName). InTurn
-      (λ (n : ReaderName). WriterTakes config old.prefix peer.number at a (suc index) n.reader) ns
+      (λ (n : ReaderName). WriterTakes roster old.prefix peer.number at a (suc index) n.reader) ns
       (state_of peer) h.made r.dues r.state) (take_all (length k.readers) k.readers (omega arith)) r.turn in
       let rows =
-      turn_named (λ (e : Endpoint). WriterTakes config old.prefix peer.number at a (suc index) e) k.readers
+      turn_named (λ (e : Endpoint). WriterTakes roster old.prefix peer.number at a (suc index) e) k.readers
       (get_or peer.part.rtps.writers index no_writer).readers (state_of peer) r.state h.made r.dues
       (stands.writers.each index k at_k).readers named in
       let lt = get-within old.writers index k at_k in
       let count = stands.writers.count in
-      let o : IsOwn config old peer.number index k = own_is config peer old stands index k at_k in
+      let o : IsOwn roster old peer.number index k = own_is roster peer old stands index k at_k in
       record {
         state = r.state;
         dues = r.dues;
         takes =
             turn_only
             (λ (writer : ℕ). InTurn
-            (λ (p : ReaderProxy). WriterTakes config old.prefix peer.number at a writer p.reader)
+            (λ (p : ReaderProxy). WriterTakes roster old.prefix peer.number at a writer p.reader)
             (own_writer peer.part writer).readers) 1 (length peer.part.rtps.writers) index
             (state_of peer) r.state h.made r.dues (omega (arith, lt, count))
-            (λ j low apart s. idle_writer config peer old.prefix at a (1 + j) (own_writer peer.part (1 + j)).readers s
+            (λ j low apart s. idle_writer roster peer old.prefix at a (1 + j) (own_writer peer.part (1 + j)).readers s
             (λ e to_it.
-            let to : IsToWriter config old.prefix at a.reader_id a.writer_id (own_end peer j) e =
-            subst (λ (n : ℕ). IsToWriter config old.prefix at a.reader_id a.writer_id
+            let to : IsToWriter roster old.prefix at a.reader_id a.writer_id (own_end peer.number j) e =
+            subst (λ (n : ℕ). IsToWriter roster old.prefix at a.reader_id a.writer_id
             (record { peer = peer.number; number = n }) e) (one_on j) to_it in
             let one =
-            one_writer config old.prefix a.writer_id (own_end peer j)
-            (own_end peer index) stands.is_peer.roster to.to
+            one_writer roster old.prefix a.writer_id (own_end peer.number j)
+            (own_end peer.number index) stands.is_peer.is_roster to.to
             (record {
-              peer = o.own.from.peer;
-              at_peer = o.own.from.at_peer;
-              same_prefix = o.own.from.same_prefix;
-              end = o.own.from.end;
-              at_writer = o.own.from.at_writer;
-              same_entity = o.own.from.same_entity ∙ entity;
+              same_prefix = o.from.same_prefix;
+              at_writer = o.from.at_writer ∙ ap (λ (x : EntityId). Some x) entity;
             }) in
             let same = ap (λ (x : Endpoint). x.number) one in apart (omega (arith, same))))
-            (subst (λ (n : ℕ). InTurn (λ (p : ReaderProxy). WriterTakes config old.prefix peer.number at a n p.reader)
+            (subst (λ (n : ℕ). InTurn (λ (p : ReaderProxy). WriterTakes roster old.prefix peer.number at a n p.reader)
             (own_writer peer.part n).readers (state_of peer) h.made r.dues r.state) (sym (one_on index)) rows);
         stands = r.stands;
         adds = r.adds;
@@ -327,24 +324,24 @@ pub nobody_takes : (old : PeerKept) (a : AckNackBody) (at : Receiver) (effects :
 nobody_takes old a at effects none = record {
   made = [];
   after_is = sym (append-nil effects.moves.items);
-  takes = λ config peer stands. record {
+  takes = λ roster peer stands. record {
     state = state_of peer;
     dues = [];
     takes =
         turn_idle
-        (λ (writer : ℕ). InTurn (λ (p : ReaderProxy). WriterTakes config old.prefix peer.number at a writer p.reader)
+        (λ (writer : ℕ). InTurn (λ (p : ReaderProxy). WriterTakes roster old.prefix peer.number at a writer p.reader)
         (own_writer peer.part writer).readers) (numbers_from 1 (length peer.part.rtps.writers)) (state_of peer)
         (λ j x there.
         let f = number_at 1 (length peer.part.rtps.writers) j x there in
         let lt = f.0 in
         let count = stands.writers.count in
         let found = element old.writers j (omega (arith, lt, count)) in
-        let named : InTurn (λ (n : ReaderName). WriterTakes config old.prefix peer.number at a (suc j) n.reader)
+        let named : InTurn (λ (n : ReaderName). WriterTakes roster old.prefix peer.number at a (suc j) n.reader)
         found.0.readers (state_of peer) [] [] (state_of peer) =
-        turn_idle (λ (n : ReaderName). WriterTakes config old.prefix peer.number at a (suc j) n.reader) found.0.readers
+        turn_idle (λ (n : ReaderName). WriterTakes roster old.prefix peer.number at a (suc j) n.reader) found.0.readers
         (state_of peer)
         (λ row name at_name. row_unasked (record {
-          config = config;
+          roster = roster;
           peer = peer;
           kept = old;
           stands = stands;
@@ -356,10 +353,10 @@ nobody_takes old a at effects none = record {
           at_name = at_name;
         }) at a (none j found.0 found.1 row)) in
         let rows =
-        turn_named (λ (e : Endpoint). WriterTakes config old.prefix peer.number at a (suc j) e) found.0.readers
+        turn_named (λ (e : Endpoint). WriterTakes roster old.prefix peer.number at a (suc j) e) found.0.readers
         (get_or peer.part.rtps.writers j no_writer).readers (state_of peer) (state_of peer) [] []
         (stands.writers.each j found.0 found.1).readers named in
-        subst (λ (n : ℕ). InTurn (λ (p : ReaderProxy). WriterTakes config old.prefix peer.number at a n p.reader)
+        subst (λ (n : ℕ). InTurn (λ (p : ReaderProxy). WriterTakes roster old.prefix peer.number at a n p.reader)
         (own_writer peer.part n).readers (state_of peer) [] [] (state_of peer)) (sym (next f.1)) rows);
     stands = stands;
     adds = adds_none effects.sent.packets.items effects.sent.unsent;

@@ -3,7 +3,7 @@ use Rattle.std.proofs.Common.{◌≡◌, ℕ, suc, ◌+◌, ◌<◌, ◌≤◌, 
 use Rattle.std.specs.Prelude.{OnOk}
 use Rattle.std.proofs.lemmas.List.{append-nil, length-map}
 use Rattle.std.proofs.lemmas.Option.{same_Some}
-use Rattle.dds_base.specs.declared.config.Config.{Config}
+use Rattle.dds_protocol.specs.Roster.{Roster}
 use Rattle.dds_base.specs.declared.endpoint.Endpoint.{Endpoint}
 use Rattle.dds_base.specs.declared.happening.Happening.{Happening}
 use Rattle.dds_base.specs.Places.{Match}
@@ -21,6 +21,7 @@ use Rattle.dds_protocol.specs.Resuming.{GoAgain, GoesAgain, MayGoAgain}
 use Rattle.dds_core.specs.declared.effects.Effects.{Effects}
 use Rattle.dds_ends.specs.declared.matching.WriterName.{WriterName}
 use Rattle.dds_ends.specs.declared.sending.Announced.{Announced}
+use Rattle.dds_ends.specs.Identity.{reader_identity}
 use Rattle.dds_ends.specs.Kept.{ReaderKept}
 use Rattle.dds_core.specs.Kept.{PeerKept}
 use Rattle.dds_ends.specs.Readiness.{HasMemory, IsAlike}
@@ -36,7 +37,6 @@ use Rattle.dds_core.proofs.LastReader.{here_now}
 use Rattle.dds_ends.proofs.Lists.{drop_end, drop_next, element, get-map, get-within, map-get, set_back}
 use Rattle.dds_core.proofs.Makes.{set_get}
 use Rattle.dds_core.proofs.Meeting.{Met, again_met, moves_at, told_match}
-use Rattle.dds_core.proofs.Names.{own_reader_is}
 use Rattle.dds_ends.proofs.Rows.{proxied, writers_of}
 use Rattle.dds_core.proofs.Taking.{stands_again}
 use Rattle.dds_core.proofs.Takes.{Telling, known_of, reader_of, stands_here, stood}
@@ -45,24 +45,26 @@ use Rattle.dds_core.proofs.Turns.{idle_moves, rested}
 -- ---- one row
 
 -- the writer of a row stands in no earlier one
-first_there : (config : Config) (peer : Peer) (kept : PeerKept) → StandsFor kept config peer → (i row : ℕ)
+first_there : (roster : Roster) (peer : Peer) (kept : PeerKept) → StandsFor kept roster peer → (i row : ℕ)
     (k : ReaderKept) → slice_get kept.readers i ≡ Some k → (name : WriterName) → slice_get k.writers row ≡ Some name
     → IsFirstRow k.writers name.writer row
-first_there config peer kept s i row k at_k name at =
-    let own = own_reader_is config peer.number kept s.is_peer i k at_k in
+first_there roster peer kept s i row k at_k name at =
+    let there = map-get reader_identity kept.readers i k at_k in
     record {
       name = name;
       at = at;
       is = refl;
-      first = λ j x lt at_x same. let one : j ≡ row = own.once j row x name at_x at same in omega (arith, lt, one);
+      first = λ j x lt at_x same.
+          let one : j ≡ row = s.is_peer.once i (reader_identity k) there j row x name at_x at same in
+          omega (arith, lt, one);
     }
 
 -- the reader of an index, and the writer of a row there
-abbrev trying : (config : Config) (peer : Peer) (kept : PeerKept) → StandsFor kept config peer → (i row : ℕ)
+abbrev trying : (roster : Roster) (peer : Peer) (kept : PeerKept) → StandsFor kept roster peer → (i row : ℕ)
     (k : ReaderKept) → slice_get kept.readers i ≡ Some k → (name : WriterName) → slice_get k.writers row ≡ Some name
     → Telling
-trying config peer kept s i row k at_k name at = record {
-  config = config;
+trying roster peer kept s i row k at_k name at = record {
+  roster = roster;
   peer = peer;
   kept = kept;
   stands = s;
@@ -71,13 +73,13 @@ trying config peer kept s i row k at_k name at = record {
   at = at_k;
   writer = name.writer;
   row = row;
-  first = first_there config peer kept s i row k at_k name at;
+  first = first_there roster peer kept s i row k at_k name at;
 }
 
 -- what was met at a row is a try of its place
 tried_so : (c : Telling) (k' : ReaderKept) (made : List Move)
     → Met c k' (λ s. GoesAgain (stood_as (how_at c.k.reader c.row)) (state_of c.peer) c.writer (suc c.i) made s)
-    → Tried c.config c.peer c.writer (suc c.i) made (with_reader c.kept c.i k')
+    → Tried c.roster c.peer c.writer (suc c.i) made (with_reader c.kept c.i k')
 tried_so c k' made m = record {
   state = m.state;
   goes =
@@ -86,13 +88,13 @@ tried_so c k' made m = record {
 }
 
 -- the place was tried again
-row_tried : (config : Config) (peer : Peer) (kept new : PeerKept) (s : StandsFor kept config peer) (i row : ℕ)
+row_tried : (roster : Roster) (peer : Peer) (kept new : PeerKept) (s : StandsFor kept roster peer) (i row : ℕ)
     (k : ReaderKept) (at_k : slice_get kept.readers i ≡ Some k) (name : WriterName)
     (at : slice_get k.writers row ≡ Some name) (moves : List Move) (sent : Announced) (after : List Move)
     (gone : Announced) (t : TookAt kept i (again row) k moves sent new after gone)
-    → Tried config peer name.writer (suc i) (moves_of t.name.writer (i + 1) t.from t.step) new
-row_tried config peer kept new s i row k at_k name at moves sent after gone t =
-    let c : Telling = trying config peer kept s i row k at_k name at in
+    → Tried roster peer name.writer (suc i) (moves_of t.name.writer (i + 1) t.from t.step) new
+row_tried roster peer kept new s i row k at_k name at moves sent after gone t =
+    let c : Telling = trying roster peer kept s i row k at_k name at in
     let knows : Tracks k.reader row (known_of c) = (stood c).knows c.writer row c.first in
     let tried =
     tried_so c t.reader (moves_at c t.from t.step)
@@ -103,9 +105,9 @@ row_tried config peer kept new s i row k at_k name at moves sent after gone t =
       others_how = t.told.others_how;
       from_is = t.place (known_of c) knows;
     }) refl (t.told.told (known_of c) (reader_of c).happened knows (stood c).holds)) in
-    subst (λ (x : PeerKept). Tried config peer name.writer (suc i) (moves_of t.name.writer (i + 1) t.from t.step) x)
+    subst (λ (x : PeerKept). Tried roster peer name.writer (suc i) (moves_of t.name.writer (i + 1) t.from t.step) x)
     (sym t.new_is)
-    (subst (λ (n : WriterName). Tried config peer name.writer (suc i) (moves_of n.writer (i + 1) t.from t.step)
+    (subst (λ (n : WriterName). Tried roster peer name.writer (suc i) (moves_of n.writer (i + 1) t.from t.step)
     (with_reader kept i t.reader)) (same_Some name t.name (sym at ∙ t.at_name)) tried)
 
 -- nothing is done where the place waits for what is not known, or has not begun
@@ -121,12 +123,12 @@ news_none standing.Begun match t h Knows Has is knows has =
 news_none standing.Waiting match t h Knows Has is knows has = rested t h Knows Has knows has
 news_none standing.Away match t h Knows Has is knows has = rested t h Knows Has knows has
 
-row_idles : (config : Config) (peer : Peer) (kept : PeerKept) (s : StandsFor kept config peer) (i row : ℕ)
+row_idles : (roster : Roster) (peer : Peer) (kept : PeerKept) (s : StandsFor kept roster peer) (i row : ℕ)
     (k : ReaderKept) (at_k : slice_get kept.readers i ≡ Some k) (name : WriterName)
     (at : slice_get k.writers row ≡ Some name) → GoesOnAt k row false
-    → Tried config peer name.writer (suc i) [] kept
-row_idles config peer kept s i row k at_k name at idle =
-    let c : Telling = trying config peer kept s i row k at_k name at in
+    → Tried roster peer name.writer (suc i) [] kept
+row_idles roster peer kept s i row k at_k name at idle =
+    let c : Telling = trying roster peer kept s i row k at_k name at in
     let knows : Tracks k.reader row (known_of c) = (stood c).knows c.writer row c.first in
     let tried =
     tried_so c k (moves_at c (known_of c).place (idle_step (known_of c)))
@@ -139,9 +141,9 @@ row_idles config peer kept s i row k at_k name at idle =
     }) refl
     (news_none (how_at k.reader row) (told_match c) (known_of c) (reader_of c).happened _ _
     (sym (idle (known_of c) knows)) knows (stood c).holds)) in
-    subst (λ (x : PeerKept). Tried config peer name.writer (suc i) [] x)
+    subst (λ (x : PeerKept). Tried roster peer name.writer (suc i) [] x)
     (ap (λ (rs : List ReaderKept). record kept { readers = rs }) (set_back kept.readers i k k at_k refl))
-    (subst (λ (ms : List Move). Tried config peer name.writer (suc i) ms (with_reader kept i k))
+    (subst (λ (ms : List Move). Tried roster peer name.writer (suc i) ms (with_reader kept i k))
     (idle_moves c.writer (i + 1) (known_of c)) tried)
 
 -- something may go on there, so it may need memory
@@ -156,9 +158,9 @@ may_go_again standing.Away t is = absurd (let clash : false ≡ true = is in cc)
 
 pub row_needs : (kept : PeerKept) (i row : ℕ) (k : ReaderKept) → slice_get kept.readers i ≡ Some k → GoesOnAt k row true
     → RowNeedsMemory kept i row
-row_needs kept i row k at_k goes config peer s has =
+row_needs kept i row k at_k goes roster peer s has =
     let is : k ≡ has.reader = same_Some k has.reader (sym at_k ∙ has.at) in
-    let c : Telling = trying config peer kept s i row has.reader has.at has.name has.at_row in
+    let c : Telling = trying roster peer kept s i row has.reader has.at has.name has.at_row in
     let knows : Tracks has.reader.reader row (known_of c) = (stood c).knows c.writer row c.first in
     let here : GoesOnAt has.reader row true = subst (λ (x : ReaderKept). GoesOnAt x row true) is goes in
     let may = may_go_again (how_at has.reader.reader row) (known_of c) (sym (here (known_of c) knows)) in
@@ -184,8 +186,8 @@ pub tries_none : (kept : PeerKept) (i row : ℕ) (effects : Effects) (k : Reader
 tries_none kept i row effects k at_k idle = record {
   made = [];
   after_is = sym (append-nil effects.moves.items);
-  tries = λ config peer s has.
-      row_idles config peer kept s i row has.reader has.at has.name has.at_row
+  tries = λ roster peer s has.
+      row_idles roster peer kept s i row has.reader has.at has.name has.at_row
       (subst (λ (x : ReaderKept). GoesOnAt x row false) (same_Some k has.reader (sym at_k ∙ has.at)) idle);
   rows = same_rows i kept;
 }
@@ -200,9 +202,9 @@ tries_row kept new i row effects after can takes =
     record {
       made = moves_of t.name.writer (i + 1) t.from t.step;
       after_is = t.after_is;
-      tries = λ config peer s has.
+      tries = λ roster peer s has.
           let is : has.reader ≡ k = same_Some has.reader k (sym has.at ∙ can.1) in
-          row_tried config peer kept new s i row k can.1 has.name
+          row_tried roster peer kept new s i row k can.1 has.name
           (subst (λ (x : ReaderKept). slice_get x.writers row ≡ Some has.name) is has.at_row) effects.moves.items
           effects.sent after.moves.items after.sent t;
       rows = λ x at_x.
@@ -254,9 +256,9 @@ pub tries_after : (old mid new : PeerKept) (i row : ℕ) (effects between after 
 tries_after old mid new i row effects between after well rows same t = record {
   made = t.made;
   after_is = t.after_is ∙ ap (λ (ms : List Move). ms ++ t.made) same;
-  tries = λ config peer s has.
+  tries = λ roster peer s has.
       let now = rows has.reader has.at in
-      t.tries config peer (well config peer s) (record {
+      t.tries roster peer (well roster peer s) (record {
         reader = now.0;
         at = now.1;
         name = has.name;
@@ -269,10 +271,10 @@ tries_after old mid new i row effects between after well rows same t = record {
 
 -- for a state that the old values stand for, the places at the rows before this one were tried again, with these moves:
 -- whatever the others do, it follows on
-pub record TriedTo (old : PeerKept) (i row : ℕ) (moves : List Move) (now : PeerKept) (config : Config)
+pub record TriedTo (old : PeerKept) (i row : ℕ) (moves : List Move) (now : PeerKept) (roster : Roster)
     (peer : Peer) : Type 0 where
   pub state : State
-  pub stands : StandsFor now config (with_state peer state)
+  pub stands : StandsFor now roster (with_state peer state)
   pub on : (later : List Move) (refused : Option ℕ) (after : State)
       → GoAgain (suc i) row (drop row (own_proxies peer.part (suc i))) state later refused after
       → GoAgain (suc i) 0 (own_proxies peer.part (suc i)) (state_of peer) (moves ++ later) refused after
@@ -280,23 +282,23 @@ pub record TriedTo (old : PeerKept) (i row : ℕ) (moves : List Move) (now : Pee
 -- the same, said of each state that the old values stand for
 abbrev pub TriesTo : PeerKept → ℕ → ℕ → List Move → PeerKept → Type 0
 TriesTo old i row moves now =
-    (config : Config) (peer : Peer) → StandsFor old config peer → TriedTo old i row moves now config peer
+    (roster : Roster) (peer : Peer) → StandsFor old roster peer → TriedTo old i row moves now roster peer
 
 -- at first none
 pub tries_first : (old : PeerKept) (i : ℕ) (moves : List Move) → moves ≡ [] → TriesTo old i 0 moves old
-tries_first old i moves none config peer s = record {
+tries_first old i moves none roster peer s = record {
   state = state_of peer;
-  stands = stands_again old config peer (with_state peer (state_of peer)) refl refl refl s;
+  stands = stands_again old roster peer (with_state peer (state_of peer)) refl refl refl s;
   on = λ later refused after h.
       subst (λ (ms : List Move). GoAgain (suc i) 0 (own_proxies peer.part (suc i)) (state_of peer) (ms ++ later) refused
       after) (sym none) h;
 }
 
 -- the row that is next, as the machine has it
-next_row : (config : Config) (peer : Peer) (old : PeerKept) → StandsFor old config peer → (i row : ℕ) (k : ReaderKept)
+next_row : (roster : Roster) (peer : Peer) (old : PeerKept) → StandsFor old roster peer → (i row : ℕ) (k : ReaderKept)
     → slice_get old.readers i ≡ Some k → (name : WriterName) → slice_get k.writers row ≡ Some name
     → (p : WriterProxy) × (slice_get (own_proxies peer.part (suc i)) row ≡ Some p) × (p.writer ≡ name.writer)
-next_row config peer old s i row k at_k name at =
+next_row roster peer old s i row k at_k name at =
     let same : proxied (own_proxies peer.part (suc i)) ≡ writers_of k.writers = (s.readers.each i k at_k).writers_are in
     get-map (λ (p : WriterProxy). p.writer) (own_proxies peer.part (suc i)) row name.writer
     (ap (λ (es : List Endpoint). slice_get es row) same
@@ -327,16 +329,16 @@ pub tries_more : (old now new : PeerKept) (i row : ℕ) (k : ReaderKept) (effect
     → slice_get old.readers i ≡ Some k → row < length k.writers → SameRows i old now
     → TriesTo old i row effects.moves.items now → TriesRow now i row effects new after
     → TriesTo old i (row + 1) after.moves.items new
-tries_more old now new i row k effects after at_k within rows before more config peer s =
+tries_more old now new i row k effects after at_k within rows before more roster peer s =
     let name = element k.writers row within in
-    let t : TriedTo old i row effects.moves.items now config peer = before config peer s in
-    let r : Tried config (with_state peer t.state) name.0.writer (suc i) more.made new =
-    more.tries config (with_state peer t.state) t.stands (has_row old now i row k at_k within rows) in
-    let p = next_row config peer old s i row k at_k name.0 name.1 in
+    let t : TriedTo old i row effects.moves.items now roster peer = before roster peer s in
+    let r : Tried roster (with_state peer t.state) name.0.writer (suc i) more.made new =
+    more.tries roster (with_state peer t.state) t.stands (has_row old now i row k at_k within rows) in
+    let p = next_row roster peer old s i row k at_k name.0 name.1 in
     record {
       state = r.state;
       stands =
-          stands_again new config (with_state (with_state peer t.state) r.state) (with_state peer r.state) refl refl refl
+          stands_again new roster (with_state (with_state peer t.state) r.state) (with_state peer r.state) refl refl refl
           r.stands;
       on = λ later refused end h.
           let goes : GoesAgain (stands_to t.state p.0.writer (suc i)) t.state p.0.writer (suc i) more.made r.state =
@@ -356,26 +358,26 @@ tries_more old now new i row k effects after at_k within rows before more config
 pub tries_all : (old now : PeerKept) (i row : ℕ) (k : ReaderKept) (report : Report) → slice_get old.readers i ≡ Some k
     → length k.writers ≤ row → row ≤ length k.writers → TriesTo old i row report.moves now → report.refused ≡ None
     → ResumesAll old i report now
-tries_all old now i row k report at_k low high before fine config peer s =
-    let t : TriedTo old i row report.moves now config peer = before config peer s in
+tries_all old now i row k report at_k low high before fine roster peer s =
+    let t : TriedTo old i row report.moves now roster peer = before roster peer s in
     record {
       state = t.state;
       resumes = ends_so t (subst (λ (ps : List WriterProxy). GoAgain (suc i) row ps t.state [] report.refused t.state)
-          (sym (drop_end (own_proxies peer.part (suc i)) row (many config peer s))) (refl, fine, refl));
+          (sym (drop_end (own_proxies peer.part (suc i)) row (many roster peer s))) (refl, fine, refl));
       stands = t.stands;
     }
   where
-    many : (config : Config) (peer : Peer) → StandsFor old config peer
+    many : (roster : Roster) (peer : Peer) → StandsFor old roster peer
         → length (own_proxies peer.part (suc i)) ≡ row
-    many config peer s =
+    many roster peer s =
         sym (length-map (own_proxies peer.part (suc i)) (λ (p : WriterProxy). p.writer))
         ∙ (ap (λ (es : List Endpoint). length es) (s.readers.each i k at_k).writers_are
         ∙ (length-map k.writers (λ (n : WriterName). n.writer) ∙ omega (arith, low, high)))
 
-    ends_so : {config : Config} {peer : Peer} (t : TriedTo old i row report.moves now config peer)
+    ends_so : {roster : Roster} {peer : Peer} (t : TriedTo old i row report.moves now roster peer)
         → GoAgain (suc i) row (drop row (own_proxies peer.part (suc i))) t.state [] report.refused t.state
         → GoAgain (suc i) 0 (own_proxies peer.part (suc i)) (state_of peer) report.moves report.refused t.state
-    ends_so {config} {peer} t h =
+    ends_so {roster} {peer} t h =
         subst (λ (ms : List Move). GoAgain (suc i) 0 (own_proxies peer.part (suc i)) (state_of peer) ms report.refused
         t.state) (append-nil report.moves) (t.on [] report.refused t.state h)
 
@@ -384,12 +386,12 @@ pub tries_some : (old now left : PeerKept) (i row : ℕ) (k : ReaderKept) (repor
     → slice_get old.readers i ≡ Some k → row < length k.writers → SameRows i old now
     → TriesTo old i row report.moves now → RowNeedsMemory now i row → StandsAsWell now left
     → report.refused ≡ Some row → ResumesAll old i report left
-tries_some old now left i row k report at_k within rows before needs well stop config peer s =
+tries_some old now left i row k report at_k within rows before needs well stop roster peer s =
     let name = element k.writers row within in
-    let t : TriedTo old i row report.moves now config peer = before config peer s in
+    let t : TriedTo old i row report.moves now roster peer = before roster peer s in
     let may : MayGoAgain t.state name.0.writer (suc i) =
-    needs config (with_state peer t.state) t.stands (has_row old now i row k at_k within rows) in
-    let p = next_row config peer old s i row k at_k name.0 name.1 in
+    needs roster (with_state peer t.state) t.stands (has_row old now i row k at_k within rows) in
+    let p = next_row roster peer old s i row k at_k name.0 name.1 in
     let stopped : GoAgain (suc i) row (p.0 ∷ drop (row + 1) (own_proxies peer.part (suc i))) t.state [] report.refused
     t.state =
     inl (refl, stop, refl, subst (λ (w : Endpoint). MayGoAgain t.state w (suc i)) (sym p.2) may) in
@@ -401,5 +403,5 @@ tries_some old now left i row k report at_k within rows before needs well stop c
           (t.on [] report.refused t.state
           (subst (λ (ps : List WriterProxy). GoAgain (suc i) row ps t.state [] report.refused t.state)
           (sym (drop_next (own_proxies peer.part (suc i)) row p.0 p.1)) stopped));
-      stands = well config (with_state peer t.state) t.stands;
+      stands = well roster (with_state peer t.state) t.stands;
     }

@@ -2,10 +2,8 @@
 use Rattle.std.proofs.Common.{◌≡◌, ◌⊎◌, ℕ, suc, ◌+◌, ◌<◌, ◌≤◌, ◌==◌, Bool, true, false, cond, ◌&&◌, ◌||◌, List, [], ◌∷◌, ◌++◌, Option, Some, None, map, max, take, length, get_or, slice_get, refl, ap, sym, ◌∙◌, subst, arith, inl, inr, ⊎_elim, length-append, nat_lt, eq-eqb, eqb-true}
 use Rattle.std.specs.Prelude.{if◌then◌else◌, nat_le}
 use Rattle.std.proofs.lemmas.Bool.Decides.{nat_tests}
-use Rattle.dds_base.specs.declared.config.Config.{Config}
-use Rattle.dds_base.specs.declared.config.PeerConfig.{PeerConfig}
-use Rattle.dds_base.specs.declared.config.ReaderConfig.{ReaderConfig}
-use Rattle.dds_base.specs.declared.config.WriterConfig.{WriterConfig}
+use Rattle.std.proofs.lemmas.Option.{same_Some}
+use Rattle.dds_protocol.specs.Roster.{Roster}
 use Rattle.dds_base.specs.declared.guid.EntityId.{EntityId}
 use Rattle.dds_base.specs.declared.guid.GuidPrefix.{GuidPrefix}
 use Rattle.dds_base.specs.Kept.{is_kept}
@@ -25,7 +23,7 @@ use Rattle.dds_machine.specs.Part.{Part, ReaderProxy, Writer, no_writer, same_en
 use Rattle.dds_protocol.specs.Peer.{Peer, state_of as network_of}
 use Rattle.dds_protocol.specs.DueMessages.{Due, answer_message}
 use Rattle.dds_protocol.specs.Contact.{Contact}
-use Rattle.dds_protocol.specs.Protocol.{State, Known, IsStranger, SaysStranger, WriterTakes, AreGrouped, answers_per, TakesAckNack as TakesByRules, acknowledging, answered_from, asks_for_heartbeat, contact_after, has_for, is_taken_up, with_answered}
+use Rattle.dds_protocol.specs.Protocol.{State, Known, SaysStranger, WriterTakes, AreGrouped, answers_per, TakesAckNack as TakesByRules, acknowledging, answered_from, asks_for_heartbeat, contact_after, has_for, is_taken_up, with_answered}
 use Rattle.dds_protocol.proofs.Framing.{with_same}
 use Rattle.dds_protocol.proofs.InOrder.{same_self}
 use Rattle.dds_ends.specs.declared.answering.Answering.{Answering}
@@ -37,9 +35,9 @@ use Rattle.dds_core.specs.Answering.{IsAskedWriter, RowTook}
 use Rattle.dds_ends.specs.Beating.{AddsTo, due_to}
 use Rattle.dds_ends.specs.Kept.{WriterKept}
 use Rattle.dds_core.specs.Kept.{PeerKept}
-use Rattle.dds_ends.specs.Identity.{WriterIdentity}
+use Rattle.dds_ends.specs.Identity.{IsWriterOf, WriterIdentity, writer_identity}
 use Rattle.dds_ends.specs.MatchCounts.{CountsFor}
-use Rattle.dds_ends.specs.MatchedEnds.{AreRows, is_named, last_count, readers_of, topic_reader}
+use Rattle.dds_ends.specs.MatchedEnds.{AreRows, IsNameOf, is_named, last_count, readers_of, topic_reader}
 use Rattle.dds_core.specs.Receiving.{with_state, NeedsMemory}
 use Rattle.dds_ends.specs.Standing.{AreQuiet, WriterStands, state_of}
 use Rattle.dds_core.specs.Standing.{StandsFor}
@@ -48,110 +46,81 @@ use Rattle.dds_ends.proofs.Beating.{adds_none}
 use Rattle.dds_core.proofs.Ends.{with_writer, writer_put}
 use Rattle.dds_ends.proofs.Lists.{get-map, map-get}
 use Rattle.dds_ends.proofs.MatchedAt.{not_named, once_at}
-use Rattle.dds_core.proofs.Makes.{IsOwnWriter, own_writer_is}
-use Rattle.dds_core.proofs.Names.{IsReaderNamed, name_is}
-use Rattle.dds_ends.proofs.Numbered.{same_end}
+use Rattle.dds_core.proofs.Names.{own_end, own_writer_is}
 use Rattle.dds_ends.proofs.Once.{Once}
 use Rattle.dds_core.proofs.Tellable.{tellable_put}
 
--- ---- whom an ACKNACK is from, by the configuration
+-- ---- whom an ACKNACK is from, by the roster
 
--- what the configuration says of a writer of the peer, and of the readers that it knows
-pub record IsOwn (config : Config) (kept : PeerKept) (number i : ℕ) (k : WriterKept) : Type 0 where
-  pub own : IsOwnWriter config kept number i k
+-- what the roster says of a writer of the peer, and of the reliable readers that it is matched with
+pub record IsOwn (roster : Roster) (kept : PeerKept) (number i : ℕ) (k : WriterKept) : Type 0 where
+  pub from : IsWriter roster kept.prefix k.entity (own_end number i)
   pub once : Once (λ (n : ReaderName). n.reader) k.readers
   pub named : (row : ℕ) (name : ReaderName) → slice_get k.readers row ≡ Some name
-      → IsReaderNamed config own.end.topic name
+      → IsNameOf roster (own_end number i) name
 
-pub own_is : (config : Config) (peer : Peer) (kept : PeerKept) → StandsFor kept config peer → (i : ℕ) (k : WriterKept)
-    → slice_get kept.writers i ≡ Some k → IsOwn config kept peer.number i k
-own_is config peer kept s i k at =
-    let own : IsOwnWriter config kept peer.number i k = own_writer_is config peer.number kept s.is_peer i k at in
+pub own_is : (roster : Roster) (peer : Peer) (kept : PeerKept) → StandsFor kept roster peer → (i : ℕ) (k : WriterKept)
+    → slice_get kept.writers i ≡ Some k → IsOwn roster kept peer.number i k
+own_is roster peer kept s i k at =
+    let own : IsWriterOf roster (own_end peer.number i) (writer_identity k) =
+    own_writer_is roster peer.number kept s.is_peer i k at in
     record {
-      own = own;
+      from = record { same_prefix = s.is_peer.prefix; at_writer = own.entity };
       once = once_at k.readers (s.writers.each i k at).rows.once;
-      named = λ row name there. name_is config own.end.topic name (own.is.ends.named row name there).name_is;
+      named = λ row name there. (own.ends.named row name there).name_is;
     }
 
-abbrev pub own_end : Peer → ℕ → Endpoint
-own_end peer i = record { peer = peer.number; number = suc i }
-
-abbrev pub to_writer : (config : Config) (peer : Peer) (kept : PeerKept) (i : ℕ) (k : WriterKept)
-    (o : IsOwn config kept peer.number i k) (at : Receiver) (a : AckNackBody) (name : ReaderName)
-    → IsReaderNamed config o.own.end.topic name
+abbrev pub to_writer : (roster : Roster) (peer : Peer) (kept : PeerKept) (i : ℕ) (k : WriterKept)
+    (o : IsOwn roster kept peer.number i k) (at : Receiver) (a : AckNackBody) (name : ReaderName)
+    → IsNameOf roster (own_end peer.number i) name
     → IsFrom kept.prefix k.entity at a name
-    → IsToWriter config kept.prefix at a.reader_id a.writer_id (own_end peer i) name.reader
-to_writer config peer kept i k o at a name n f = record {
+    → IsToWriter roster kept.prefix at a.reader_id a.writer_id (own_end peer.number i) name.reader
+to_writer roster peer kept i k o at a name n f = record {
   entity = name.guid.entity;
-  from =
-      record {
-        peer = n.peer;
-        at_peer = n.at_peer;
-        same_prefix = n.same_prefix
-            ∙ f.source;
-        end = n.end;
-        at_reader = n.at_end;
-        same_entity = n.same_entity;
-      };
+  from = record { same_prefix = n.is.same_prefix ∙ f.source; at_reader = n.is.at_reader };
   named = f.named;
   is_for = f.is_for;
-  to = record {
-    peer = o.own.from.peer;
-    at_peer = o.own.from.at_peer;
-    same_prefix = o.own.from.same_prefix;
-    end =
-        o.own.from.end;
-    at_writer = o.own.from.at_writer;
-    same_entity = o.own.from.same_entity ∙ sym f.writer;
-  };
-  matched = o.own.same_topic ∙ sym n.same_topic;
+  to =
+      record {
+        same_prefix = o.from.same_prefix;
+        at_writer = o.from.at_writer ∙ ap (λ (e : EntityId). Some e) (sym f.writer);
+      };
+  matched = n.matched;
 }
 
--- two names of one writer are one
-pub one_entity : (config : Config) (prefix other : GuidPrefix) (a b : EntityId) (e : Endpoint)
-    → IsWriter config prefix a e → IsWriter config other b e → a ≡ b
-one_entity config prefix other a b e x y =
-    let same =
-    same_end (λ (p : PeerConfig). p.writers) config.peers e x.peer y.peer x.end y.end x.at_peer y.at_peer x.at_writer
-    y.at_writer in
-    sym x.same_entity ∙ (ap (λ (w : WriterConfig). w.entity) same.1 ∙ y.same_entity)
-
-pub from_reader : (config : Config) (peer : Peer) (kept : PeerKept) (i : ℕ) (k : WriterKept)
-    (o : IsOwn config kept peer.number i k) (at : Receiver) (a : AckNackBody) (name : ReaderName)
-    → IsReaderNamed config o.own.end.topic name
-    → IsToWriter config kept.prefix at a.reader_id a.writer_id (own_end peer i) name.reader
+pub from_reader : (roster : Roster) (peer : Peer) (kept : PeerKept) (i : ℕ) (k : WriterKept)
+    (o : IsOwn roster kept peer.number i k) (at : Receiver) (a : AckNackBody) (name : ReaderName)
+    → IsNameOf roster (own_end peer.number i) name
+    → IsToWriter roster kept.prefix at a.reader_id a.writer_id (own_end peer.number i) name.reader
     → IsFrom kept.prefix k.entity at a name
-from_reader config peer kept i k o at a name n to =
-    let same =
-    same_end (λ (p : PeerConfig). p.readers) config.peers name.reader to.from.peer n.peer to.from.end n.end
-    to.from.at_peer n.at_peer to.from.at_reader n.at_end in
+from_reader roster peer kept i k o at a name n to =
     let entity : to.entity ≡ name.guid.entity =
-    sym to.from.same_entity ∙ (ap (λ (r : ReaderConfig). r.entity) same.1 ∙ n.same_entity) in
+    same_Some to.entity name.guid.entity (sym to.from.at_reader ∙ n.is.at_reader) in
     record {
       named = subst (λ (x : EntityId). Names a.reader_id x) entity to.named;
       is_for = to.is_for;
-      writer = one_entity config kept.prefix kept.prefix a.writer_id k.entity (own_end peer i) to.to o.own.from;
-      source = sym n.same_prefix ∙ (ap (λ (p : PeerConfig). p.prefix) (sym same.0) ∙ to.from.same_prefix);
+      writer = same_Some a.writer_id k.entity (sym to.to.at_writer ∙ o.from.at_writer);
+      source = sym n.is.same_prefix ∙ to.from.same_prefix;
     }
 
 -- ---- one row
 
 -- what the writer of this index did, by the rules, and what was sent
-pub record RowAnswered (config : Config) (own : GuidPrefix) (at : Receiver) (a : AckNackBody) (writer : ℕ)
+pub record RowAnswered (roster : Roster) (own : GuidPrefix) (at : Receiver) (a : AckNackBody) (writer : ℕ)
     (reader : Endpoint) (peer : Peer) (made : List Move) (sent : Announced) (new : PeerKept)
     (gone : Announced) : Type 0 where
   pub state : State
   pub dues : List Due
-  pub takes : WriterTakes config own peer.number at a writer reader (network_of peer) made dues state
-  pub stands : StandsFor new config (with_state peer state)
+  pub takes : WriterTakes roster own peer.number at a writer reader (network_of peer) made dues state
+  pub stands : StandsFor new roster (with_state peer state)
   pub adds : AddsTo dues sent gone
 
 -- what is at hand where a row is answered
 pub record Row : Type 0 where
-  pub config : Config
+  pub roster : Roster
   pub peer : Peer
   pub kept : PeerKept
-  pub stands : StandsFor kept config peer
+  pub stands : StandsFor kept roster peer
   pub i : ℕ
   pub k : WriterKept
   pub at_k : slice_get kept.writers i ≡ Some k
@@ -168,9 +137,9 @@ pub record IsAtRow (k there : WriterKept) (row : ℕ) : Type 0 where
 
 -- its row, where the values stand for this peer
 abbrev pub row_at : (kept : PeerKept) (i row : ℕ) (k there : WriterKept) → slice_get kept.writers i ≡ Some there
-    → IsAtRow k there row → (config : Config) (peer : Peer) → StandsFor kept config peer → Row
-row_at kept i row k there at_there r config peer stands = record {
-  config = config;
+    → IsAtRow k there row → (roster : Roster) (peer : Peer) → StandsFor kept roster peer → Row
+row_at kept i row k there at_there r roster peer stands = record {
+  roster = roster;
   peer = peer;
   kept = kept;
   stands = stands;
@@ -182,9 +151,9 @@ row_at kept i row k there at_there r config peer stands = record {
   at_name = r.at;
 }
 
--- what the configuration says of its writer
-own_of : (c : Row) → IsOwn c.config c.kept c.peer.number c.i c.k
-own_of c = own_is c.config c.peer c.kept c.stands c.i c.k c.at_k
+-- what the roster says of its writer
+own_of : (c : Row) → IsOwn c.roster c.kept c.peer.number c.i c.k
+own_of c = own_is c.roster c.peer c.kept c.stands c.i c.k c.at_k
 
 abbrev writer_of : Row → Writer
 writer_of c = get_or c.peer.part.rtps.writers c.i no_writer
@@ -200,7 +169,7 @@ record IsRow (c : Row) : Type 0 where
   proxy : ReaderProxy
   only : IsOnly (writer_of c).readers c.name.reader c.row proxy
 
-row_is : (c : Row) → IsOwn c.config c.kept c.peer.number c.i c.k → IsRow c
+row_is : (c : Row) → IsOwn c.roster c.kept c.peer.number c.i c.k → IsRow c
 row_is c o =
     let rows : List ReaderProxy = (writer_of c).readers in
     let there : slice_get (map (λ (p : ReaderProxy). p.reader) rows) c.row ≡ Some c.name.reader =
@@ -221,7 +190,7 @@ row_is c o =
 -- what is at hand where a row was answered
 record Turn : Type 0 where
   c : Row
-  own : IsOwn c.config c.kept c.peer.number c.i c.k
+  own : IsOwn c.roster c.kept c.peer.number c.i c.k
   at : Receiver
   a : AckNackBody
   moves : List Move
@@ -267,7 +236,7 @@ suc_of n = omega arith
 -- the peer goes on as this one, by the rules
 abbrev GoesOn : Turn → PeerKept → Type 0
 GoesOn turn new =
-    RowAnswered turn.c.config turn.c.kept.prefix turn.at turn.a (suc turn.c.i) turn.c.name.reader turn.c.peer
+    RowAnswered turn.c.roster turn.c.kept.prefix turn.at turn.a (suc turn.c.i) turn.c.name.reader turn.c.peer
     (acknack_moves (turn.c.i + 1) turn.c.name.reader turn.t.acknowledged turn.t.strange) turn.sent new turn.gone
 
 abbrev with_next : Turn → PeerKept
@@ -310,15 +279,15 @@ row_applied turn from is = record {
   dues = dues;
   takes = inl (to, taken, takes);
   stands =
-      writer_put turn.c.config turn.c.peer turn.c.kept turn.c.stands turn.c.i turn.c.k turn.t.writer turn.c.at_k
+      writer_put turn.c.roster turn.c.peer turn.c.kept turn.c.stands turn.c.i turn.c.k turn.t.writer turn.c.at_k
       turn.t.same there known.answered stands others
       (tellable_put turn.c.peer.part (suc turn.c.i) there turn.c.stands.tellable refl);
   adds = subst (λ (ds : List Due). AddsTo ds turn.sent turn.gone) (same_dues (sends turn).groups) (sends turn).adds;
 }
   where
-    to : IsToWriter turn.c.config turn.c.kept.prefix turn.at turn.a.reader_id turn.a.writer_id
-        (own_end turn.c.peer turn.c.i) turn.c.name.reader
-    to = to_writer turn.c.config turn.c.peer turn.c.kept turn.c.i turn.c.k turn.own turn.at turn.a turn.c.name
+    to : IsToWriter turn.c.roster turn.c.kept.prefix turn.at turn.a.reader_id turn.a.writer_id
+        (own_end turn.c.peer.number turn.c.i) turn.c.name.reader
+    to = to_writer turn.c.roster turn.c.peer turn.c.kept turn.c.i turn.c.k turn.own turn.at turn.a turn.c.name
         (turn.own.named turn.c.row turn.c.name turn.c.at_name) from
 
     not_strange : turn.t.strange ≡ false
@@ -510,9 +479,9 @@ row_ignored turn from is = record {
         (says turn.t.strange refl, refl, refl),
       );
   stands =
-      subst (λ (p : Part). StandsFor (with_writer turn.c.kept turn.c.i turn.t.writer) turn.c.config
+      subst (λ (p : Part). StandsFor (with_writer turn.c.kept turn.c.i turn.t.writer) turn.c.roster
       (record turn.c.peer { part = p })) part_is
-      (writer_put turn.c.config turn.c.peer turn.c.kept turn.c.stands turn.c.i turn.c.k turn.t.writer turn.c.at_k
+      (writer_put turn.c.roster turn.c.peer turn.c.kept turn.c.stands turn.c.i turn.c.k turn.t.writer turn.c.at_k
       turn.t.same (writer_of turn.c) turn.c.peer.known.answered stands (λ j apart e. refl)
       (tellable_put turn.c.peer.part (suc turn.c.i) (writer_of turn.c) turn.c.stands.tellable refl));
   adds =
@@ -564,12 +533,12 @@ row_ignored turn from is = record {
             ≡ false = grind (arith, nat_tests) in ap (λ (b : Bool). if b then Some n else None) less
 
     says : (b : Bool) → turn.t.strange ≡ b
-        → SaysStranger turn.c.config turn.c.kept.prefix turn.c.peer.number turn.at turn.a (suc turn.c.i)
+        → SaysStranger turn.c.roster turn.c.kept.prefix turn.c.peer.number turn.at turn.a (suc turn.c.i)
         turn.c.name.reader (network_of turn.c.peer)
         (acknack_moves (turn.c.i + 1) turn.c.name.reader turn.t.acknowledged turn.t.strange)
     says true holds = inl (
       record {
-        is = to_writer turn.c.config turn.c.peer turn.c.kept turn.c.i turn.c.k turn.own turn.at turn.a turn.c.name
+        is = to_writer turn.c.roster turn.c.peer turn.c.kept turn.c.i turn.c.k turn.own turn.at turn.a turn.c.name
             (turn.own.named turn.c.row turn.c.name turn.c.at_name) from;
         acknowledged = (row_of turn).proxy.acknowledged;
         matched = acknowledged_is (writer_of turn.c).readers turn.c.name.reader turn.c.row (row_of turn).proxy
@@ -611,7 +580,7 @@ pub row_answered : (c : Row) (at : Receiver) (a : AckNackBody)
     → IsFrom c.kept.prefix c.k.entity at a c.name
     → (moves : List Move) (sent : Announced) (new : PeerKept) (after : List Move) (gone : Announced)
     → (t : RowTook c.kept c.i c.row a c.k c.name moves sent new after gone)
-    → RowAnswered c.config c.kept.prefix at a (suc c.i) c.name.reader c.peer
+    → RowAnswered c.roster c.kept.prefix at a (suc c.i) c.name.reader c.peer
     (acknack_moves (c.i + 1) c.name.reader t.acknowledged t.strange) sent new gone
 row_answered c at a from moves sent new after gone t = subst (GoesOn turn) (sym t.new_is) (by (is_taken turn) refl)
   where
@@ -642,18 +611,18 @@ neither false b h = (refl, h)
 
 -- a reader that the ACKNACK is not from, or for which it is not heeded, has nothing to be answered
 pub row_unasked : (c : Row) (at : Receiver) (a : AckNackBody) → IsUnaskedAt c.kept.prefix at a c.k c.row
-    → WriterTakes c.config c.kept.prefix c.peer.number at a (suc c.i) c.name.reader (network_of c.peer) [] []
+    → WriterTakes c.roster c.kept.prefix c.peer.number at a (suc c.i) c.name.reader (network_of c.peer) [] []
     (network_of c.peer)
 row_unasked c at a unasked =
-    let o : IsOwn c.config c.kept c.peer.number c.i c.k = own_of c in
+    let o : IsOwn c.roster c.kept c.peer.number c.i c.k = own_of c in
     let row : IsRow c = row_is c o in
     let state : WriterState = state_of (writer_of c) (answered_of c) in
     let base : ℕ = a.reader_sn_state.base in
-    let not : (to : IsToWriter c.config c.kept.prefix at a.reader_id a.writer_id (own_end c.peer c.i) c.name.reader)
-    → (is_applied state c.row base a.count ≡ false) × (is_beyond state base ≡ false) =
+    let not : (to : IsToWriter c.roster c.kept.prefix at a.reader_id a.writer_id (own_end c.peer.number c.i)
+    c.name.reader) → (is_applied state c.row base a.count ≡ false) × (is_beyond state base ≡ false) =
     λ to. neither (is_applied state c.row base a.count) (is_beyond state base)
     (unasked c.name c.at_name
-    (from_reader c.config c.peer c.kept c.i c.k o at a c.name (o.named c.row c.name c.at_name) to) state
+    (from_reader c.roster c.peer c.kept c.i c.k o at a c.name (o.named c.row c.name c.at_name) to) state
     (stood c).writer) in
     inr (
       λ to. sym (applied_is (writer_of c) (answered_of c) c.name.reader c.row row.proxy base a.count row.only)
@@ -669,11 +638,11 @@ either false b h = inr h
 -- one that it is from, and for which it is heeded, makes it one that may need memory
 pub asked_needs : (old : PeerKept) (at : Receiver) (a : AckNackBody) (index : ℕ)
     → IsAskedWriter old.prefix at a old.writers index → NeedsMemory old at (AckNack a)
-asked_needs old at a index is config peer stands =
+asked_needs old at a index is roster peer stands =
     let k : WriterKept = is.writer in
     let c : Row =
     record {
-      config = config;
+      roster = roster;
       peer = peer;
       kept = old;
       stands = stands;
@@ -684,11 +653,11 @@ asked_needs old at a index is config peer stands =
       name = is.asked.name;
       at_name = is.asked.there;
     } in
-    let o : IsOwn config old peer.number index k = own_of c in
+    let o : IsOwn roster old peer.number index k = own_of c in
     let row : IsRow c = row_is c o in
     let state : WriterState = state_of (writer_of c) (answered_of c) in
     let base : ℕ = a.reader_sn_state.base in
-    let to = to_writer config peer old index k o at a is.asked.name
+    let to = to_writer roster peer old index k o at a is.asked.name
     (o.named is.row is.asked.name is.asked.there) is.asked.from in (
       suc index,
       is.asked.name.reader,
@@ -708,19 +677,19 @@ asked_needs old at a index is config peer stands =
 -- a reader that the ACKNACK is not from has nothing to be answered
 pub row_idle : (c : Row) (at : Receiver) (a : AckNackBody) (sent : Announced)
     → (IsFrom c.kept.prefix c.k.entity at a c.name → ⊥)
-    → RowAnswered c.config c.kept.prefix at a (suc c.i) c.name.reader c.peer [] sent c.kept sent
+    → RowAnswered c.roster c.kept.prefix at a (suc c.i) c.name.reader c.peer [] sent c.kept sent
 row_idle c at a sent not =
-    let o : IsOwn c.config c.kept c.peer.number c.i c.k = own_of c in
+    let o : IsOwn c.roster c.kept c.peer.number c.i c.k = own_of c in
     record {
       state = network_of c.peer;
       dues = [];
       takes =
           inr (
-            (λ to. absurd (not (from_reader c.config c.peer c.kept c.i c.k o at a c.name
+            (λ to. absurd (not (from_reader c.roster c.peer c.kept c.i c.k o at a c.name
                 (o.named c.row c.name c.at_name) to))),
             (
               inr (
-                (λ s. not (from_reader c.config c.peer c.kept c.i c.k o at a c.name
+                (λ s. not (from_reader c.roster c.peer c.kept c.i c.k o at a c.name
                     (o.named c.row c.name c.at_name) s.is)),
                 refl,
               ),

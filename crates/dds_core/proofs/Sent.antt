@@ -1,5 +1,5 @@
 -- What is sent claims the change to each matched reader, and nothing but the truth.
-use Rattle.std.proofs.Common.{◌≡◌, ◌≢◌, ℕ, zero, suc, ◌+◌, ◌-◌, ◌^◌, ◌<◌, Bool, true, false, ◌||◌, List, [], ◌∷◌, Some, map, length, slice_get, refl, ap, sym, ◌∙◌, subst, arith, inl, inr, Contains, ◌==◌, eq-eqb}
+use Rattle.std.proofs.Common.{◌≡◌, ◌≢◌, ℕ, zero, suc, ◌+◌, ◌^◌, ◌<◌, Bool, true, false, ◌||◌, List, [], ◌∷◌, Some, map, length, slice_get, refl, ap, sym, ◌∙◌, subst, arith, inl, inr, Contains, ◌==◌, eq-eqb}
 use Rattle.std.specs.Prelude.{nat_lt, nat_eq, if◌then◌else◌, AllPairs}
 use Rattle.std.specs.List.{AllByRecursion}
 use Rattle.std.proofs.lemmas.Bool.Decides.{nat_tests, Decides-eqb}
@@ -9,8 +9,7 @@ use Rattle.std.proofs.lemmas.List.Kept.{AllPairs-cons}
 use Rattle.std.proofs.lemmas.List.{length-map}
 use Rattle.std.proofs.lemmas.Option.{same_Some}
 use Rattle.dds_base.specs.declared.change.Change.{Change}
-use Rattle.dds_base.specs.declared.config.Config.{Config}
-use Rattle.dds_base.specs.declared.config.PeerConfig.{PeerConfig}
+use Rattle.dds_protocol.specs.Roster.{Roster}
 use Rattle.dds_base.specs.declared.guid.GuidPrefix.{GuidPrefix}
 use Rattle.dds_base.specs.Checked.{same_prefix}
 use Rattle.dds_base.specs.Kept.{change_at}
@@ -31,7 +30,7 @@ use Rattle.dds_protocol.specs.DueMessages.{AreSent, changes_due}
 use Rattle.dds_ends.specs.declared.matching.Destination.{Destination}
 use Rattle.dds_ends.specs.declared.matching.ReaderName.{ReaderName}
 use Rattle.dds_ends.specs.declared.sending.Sender.{Sender}
-use Rattle.dds_ends.specs.MatchedEnds.{AreMatchedNow, IsNameOf, IsPeer, IsReaderOf, readers_of}
+use Rattle.dds_ends.specs.MatchedEnds.{AreMatchedNow, IsNameOf, IsPeer, readers_of}
 use Rattle.dds_ends.proofs.Destinations.{at_some}
 use Rattle.dds_ends.proofs.FirstPeers.{Differ, peers_differ}
 use Rattle.dds_ends.proofs.Lists.{get-map}
@@ -56,22 +55,22 @@ early_is moment early =
 -- ---- what is claimed is true
 
 -- the sender is this writer, and no other
-abbrev pub IsOnly : Config → Sender → Endpoint → Type 0
-IsOnly config sender own = (w : Endpoint) → IsWriter config sender.prefix sender.entity w → w ≡ own
+abbrev pub IsOnly : Roster → Sender → Endpoint → Type 0
+IsOnly roster sender own = (w : Endpoint) → IsWriter roster sender.prefix sender.entity w → w ≡ own
 
 -- the change stands at the writer under this number
 abbrev pub IsThere : Part → Endpoint → ℕ → DataContent → ℕ → Type 0
 IsThere part own number content moment =
     change_at (writer_changes (own_writer part own.number)) number ≡ Some (change_in content moment)
 
-data_says : (config : Config) (sender : Sender) (own : Endpoint) (part : Part) (prefix : GuidPrefix) (at : Receiver)
-    (number : ℕ) (content : DataContent) (claim : Claim) → IsOnly config sender own
+data_says : (roster : Roster) (sender : Sender) (own : Endpoint) (part : Part) (prefix : GuidPrefix) (at : Receiver)
+    (number : ℕ) (content : DataContent) (claim : Claim) → IsOnly roster sender own
     → at.source_guid_prefix ≡ sender.prefix
     → (is_for at prefix ≡ true → at.timestamp ≡ sender.moment) → IsThere part own number content sender.moment
-    → Says config prefix at (data_of sender number content) claim → IsTrueAt own.peer part claim
-data_says config sender own part prefix at number content (ChangeIs w r n c) only source time there h =
-    let name : IsWriter config sender.prefix sender.entity w =
-    subst (λ (p : GuidPrefix). IsWriter config p sender.entity w) source h.0.from in
+    → Says roster prefix at (data_of sender number content) claim → IsTrueAt own.peer part claim
+data_says roster sender own part prefix at number content (ChangeIs w r n c) only source time there h =
+    let name : IsWriter roster sender.prefix sender.entity w =
+    subst (λ (p : GuidPrefix). IsWriter roster p sender.entity w) source h.0.from in
     let w_is : w ≡ own = only w name in
     let c_is : c ≡ change_in content sender.moment = h.2 ∙ ap (λ (t : ℕ). change_in content t) (time h.0.is_for) in (
       ap (λ (e : Endpoint). e.peer) w_is,
@@ -79,9 +78,9 @@ data_says config sender own part prefix at number content (ChangeIs w r n c) onl
           ∙ (ap (λ (k : ℕ). change_at (writer_changes (own_writer part own.number)) k) h.1
           ∙ (there ∙ ap (λ (x : Change). Some x) (sym c_is))),
     )
-data_says config sender own part prefix at number content (MayPass w r n) only source time there h = absurd h
-data_says config sender own part prefix at number content (PlaceReached w r b) only source time there h = absurd h
-data_says config sender own part prefix at number content (Asserts w r k) only source time there h = absurd h
+data_says roster sender own part prefix at number content (MayPass w r n) only source time there h = absurd h
+data_says roster sender own part prefix at number content (PlaceReached w r b) only source time there h = absurd h
+data_says roster sender own part prefix at number content (Asserts w r k) only source time there h = absurd h
 
 -- the INFO_TS counts for whom the DATA is
 stamped : (b : Bool) (own : GuidPrefix) (r at : Receiver) (stamp : ℕ) → is_for r own ≡ b
@@ -95,38 +94,38 @@ sourced : (b : Bool) (r at : Receiver) (stamp : ℕ) → at ≡ (if b then recor
 sourced true r at stamp same = ap (λ (x : Receiver). x.source_guid_prefix) same
 sourced false r at stamp same = ap (λ (x : Receiver). x.source_guid_prefix) same
 
-message_says : (config : Config) (sender : Sender) (to : Destination) (own : Endpoint) (part : Part)
+message_says : (roster : Roster) (sender : Sender) (to : Destination) (own : Endpoint) (part : Part)
     (prefix : GuidPrefix) (index : ℕ) (at : Receiver) (submessage : Submessage) (number : ℕ) (content : DataContent)
-    (claim : Claim) → IsOnly config sender own
+    (claim : Claim) → IsOnly roster sender own
     → sender.moment < 2 ^ 63 → IsThere part own number content sender.moment
     → StandsAt prefix (receiver_of sender.prefix)
-    (announcement sender to number content).submessages index at submessage → Says config prefix at submessage claim
+    (announcement sender to number content).submessages index at submessage → Says roster prefix at submessage claim
     → IsTrueAt own.peer part claim
-message_says config sender to own part prefix zero at submessage number content claim only early there h says =
-    absurd (dst_says config prefix at to.prefix claim
-    (subst (λ (x : Submessage). Says config prefix at x claim) h.1 says))
-message_says config sender to own part prefix (suc zero) at submessage number content claim only early there h says =
-    absurd (ts_says config prefix at (Some sender.moment) claim
-    (subst (λ (x : Submessage). Says config prefix at x claim) h.1 says))
-message_says config sender to own part prefix
+message_says roster sender to own part prefix zero at submessage number content claim only early there h says =
+    absurd (dst_says roster prefix at to.prefix claim
+    (subst (λ (x : Submessage). Says roster prefix at x claim) h.1 says))
+message_says roster sender to own part prefix (suc zero) at submessage number content claim only early there h says =
+    absurd (ts_says roster prefix at (Some sender.moment) claim
+    (subst (λ (x : Submessage). Says roster prefix at x claim) h.1 says))
+message_says roster sender to own part prefix
     (suc (suc zero)) at submessage number content claim only early there h says =
     let r : Receiver = after_submessage prefix (receiver_of sender.prefix) (InfoDst to.prefix) in
     let stamp : ℕ = stamp_of (Some sender.moment) in
-    data_says config sender own part prefix at number content claim only (sourced (is_for r prefix) r at stamp h.0)
+    data_says roster sender own part prefix at number content claim only (sourced (is_for r prefix) r at stamp h.0)
     (λ for. stamped (is_for r prefix) prefix r at stamp refl h.0 for ∙ early_is sender.moment early) there
-    (subst (λ (x : Submessage). Says config prefix at x claim) h.1 says)
-message_says config sender to own part prefix
+    (subst (λ (x : Submessage). Says roster prefix at x claim) h.1 says)
+message_says roster sender to own part prefix
     (suc (suc (suc index))) at submessage number content claim only early there h says = absurd h
 
 -- what an announcement claims is true
-announcement_true : (config : Config) (sender : Sender) (to : Destination) (own : Endpoint) (part : Part) (number : ℕ)
-    (content : DataContent) (packet : Packet) (claim : Claim) → IsOnly config sender own → sender.moment < 2 ^ 63
+announcement_true : (roster : Roster) (sender : Sender) (to : Destination) (own : Endpoint) (part : Part) (number : ℕ)
+    (content : DataContent) (packet : Packet) (claim : Claim) → IsOnly roster sender own → sender.moment < 2 ^ 63
     → IsThere part own number content sender.moment → IsAnnouncement sender to number content packet
-    → Claims config packet.bytes claim → IsTrueAt own.peer part claim
-announcement_true config sender to own part number content packet claim only early there is h =
+    → Claims roster packet.bytes claim → IsTrueAt own.peer part claim
+announcement_true roster sender to own part number content packet claim only early there is h =
     let m : Message = announcement sender to number content in
-    let t = told config m claim is.writable (subst (λ (b : List ℕ). Claims config b claim) is.bytes h) in
-    message_says config sender to own part t.own t.index t.at t.submessage number content claim only early there
+    let t = told roster m claim is.writable (subst (λ (b : List ℕ). Claims roster b claim) is.bytes h) in
+    message_says roster sender to own part t.own t.index t.at t.submessage number content claim only early there
     t.stands t.says
 
 -- ---- what is claimed
@@ -140,18 +139,13 @@ for_own receiver own same =
     ap (λ (p : GuidPrefix). same_prefix p own || same_prefix p every_peer) same
     ∙ ap (λ (b : Bool). b || same_prefix own every_peer) (same_prefix-refl own)
 
--- the writer that sends, as the configuration has it
-pub record IsSender (config : Config) (sender : Sender) (own : Endpoint) (topic : ℕ) : Type 0 where
-  pub from : IsWriter config sender.prefix sender.entity own
-  pub same_topic : from.end.topic ≡ topic
-
--- the announcement claims the change to a reader of the topic at the peer that it goes to
-announces : (config : Config) (sender : Sender) (to : Destination) (own reader : Endpoint) (topic number : ℕ)
-    (content : DataContent) (packet : Packet) → IsSender config sender own topic → IsPeer config.peers to
-    → IsReaderOf config.peers topic reader
-    → reader.peer ≡ to.peer → sender.moment < 2 ^ 63 → IsAnnouncement sender to number content packet
-    → Claims config packet.bytes (ChangeIs own reader number (change_in content sender.moment))
-announces config sender to own reader topic number content packet from there of same early is =
+-- the announcement claims the change to a reader that the writer is matched with, at the peer that it goes to
+announces : (roster : Roster) (sender : Sender) (to : Destination) (own : Endpoint) (name : ReaderName) (number : ℕ)
+    (content : DataContent) (packet : Packet) → IsWriter roster sender.prefix sender.entity own → IsPeer roster to
+    → IsNameOf roster own name
+    → name.reader.peer ≡ to.peer → sender.moment < 2 ^ 63 → IsAnnouncement sender to number content packet
+    → Claims roster packet.bytes (ChangeIs own name.reader number (change_in content sender.moment))
+announces roster sender to own name number content packet from there of same early is =
     let m : Message = announcement sender to number content in
     let prefix : GuidPrefix = to.prefix in
     let before : Receiver = after_submessage prefix (receiver_of sender.prefix) (InfoDst to.prefix) in
@@ -159,25 +153,16 @@ announces config sender to own reader topic number content packet from there of 
     let for : is_for before prefix ≡ true = for_own before prefix refl in
     let after : after_submessage prefix before (InfoTs (Some sender.moment)) ≡ at =
     ap (λ (b : Bool). if b then at else before) for in
-    let at_peer : slice_get config.peers (to.peer - 1) ≡ Some of.peer =
-    subst (λ (n : ℕ). slice_get config.peers (n - 1) ≡ Some of.peer) same of.at_peer.1 in
-    let peers : of.peer ≡ there.peer = same_Some of.peer there.peer (sym at_peer ∙ there.at.1) in
-    let target : IsReader config prefix of.end.entity reader = record {
-      peer = of.peer;
-      at_peer = of.at_peer;
-      same_prefix = ap (λ (p : PeerConfig). p.prefix) peers ∙ there.prefix;
-      end = of.end;
-      at_reader = of.at_reader;
-      same_entity = refl;
-    } in
-    let speaks : IsToReader config prefix at every_reader sender.entity own reader =
+    let target : IsReader roster prefix name.guid.entity name.reader =
+    record { same_prefix = ap (λ (n : ℕ). roster.prefix n) same ∙ there; at_reader = of.is.at_reader } in
+    let speaks : IsToReader roster prefix at every_reader sender.entity own name.reader =
     record {
-      from = from.from;
+      from = from;
       is_for = for_own at prefix refl;
-      entity = of.end.entity;
+      entity = name.guid.entity;
       to = target;
       named = inr refl;
-      matched = from.same_topic ∙ sym of.same_topic;
+      matched = of.matched;
     } in
     record {
       own = prefix;
@@ -229,29 +214,28 @@ different sender number content (d ∷ ds) (p ∷ ps) once (inl f) =
 different sender number content (d ∷ ds) (p ∷ ps) once (inr g) =
     different sender number content ds (p ∷ ps) once.1 g
 
-contains_map : (ds : List Destination) (k : ℕ) (d : Destination) → slice_get ds k ≡ Some d
+pub contains_map : (ds : List Destination) (k : ℕ) (d : Destination) → slice_get ds k ≡ Some d
     → Contains (map (λ (x : Destination). x.peer) ds) d.peer
 contains_map [] k d at = absurd cc
 contains_map (x ∷ xs) zero d at = (zero, omega arith, ap (λ (y : Destination). y.peer) (same_Some x d at))
 contains_map (x ∷ xs) (suc k) d at = let c = contains_map xs k d at in let lt = c.1 in (suc c.0, omega (arith, lt), c.2)
 
--- a matched reader is one of the topic
-reader_is : (peers : List PeerConfig) (topic : ℕ) (names : List ReaderName) (reader : Endpoint)
-    → ((k : ℕ) (n : ReaderName) → slice_get names k ≡ Some n → IsNameOf peers topic n)
-    → Contains (readers_of names) reader → IsReaderOf peers topic reader
-reader_is peers topic names reader named among =
+-- a matched reader has a name
+pub name_of : (roster : Roster) (own : Endpoint) (names : List ReaderName) (reader : Endpoint)
+    → ((k : ℕ) (n : ReaderName) → slice_get names k ≡ Some n → IsNameOf roster own n)
+    → Contains (readers_of names) reader → (n : ReaderName) × IsNameOf roster own n × (n.reader ≡ reader)
+name_of roster own names reader named among =
     let f = at_some (readers_of names) reader among in
-    let n = get-map (λ (x : ReaderName). x.reader) names f.0 reader f.1 in
-    subst (λ (e : Endpoint). IsReaderOf peers topic e) n.2 (named f.0 n.0 n.1).is
+    let n = get-map (λ (x : ReaderName). x.reader) names f.0 reader f.1 in (n.0, named f.0 n.0 n.1, n.2)
 
-pub sends_change : (config : Config) (sender : Sender) (own : Endpoint) (topic : ℕ) (all : List ReaderName)
+pub sends_change : (roster : Roster) (sender : Sender) (own : Endpoint) (all : List ReaderName)
     (ds : List Destination) (names : List ReaderName) (number : ℕ) (content : DataContent) (output : Output)
-    → IsSender config sender own topic → AreMatchedNow config.peers topic all ds names
+    → IsWriter roster sender.prefix sender.entity own → AreMatchedNow roster own all ds names
     → sender.moment < 2 ^ 63 → AreAnnouncements sender number content ds output.packets
     → length output.packets + output.unsent ≡ length ds
-    → AreSent (changes_due config own (readers_of all) number (change_in content sender.moment)) output.packets
-    output.unsent → SendsChange config own (readers_of all) number (change_in content sender.moment) output
-sends_change config sender own topic all ds names number content output from matched early are counted are_sent =
+    → AreSent (changes_due roster own (readers_of all) number (change_in content sender.moment)) output.packets
+    output.unsent → SendsChange roster own (readers_of all) number (change_in content sender.moment) output
+sends_change roster sender own all ds names number content output from matched early are counted are_sent =
     let peers = matched.sent_to in
     record {
       counted =
@@ -264,20 +248,22 @@ sends_change config sender own topic all ds names number content output from mat
           (contains_map ds t.index t.to t.at));
       says = λ packet reader among same there.
           let t = target sender number content ds output.packets are packet among in
-          announces config sender t.to own reader topic number content packet from
-          (matched.prefixes t.index t.to t.at)
-          (reader_is config.peers topic all reader matched.readers there) (same ∙ t.is.to_is) early t.is;
+          let n = name_of roster own all reader matched.readers there in
+          subst (λ (e : Endpoint). Claims roster packet.bytes (ChangeIs own e number (change_in content sender.moment)))
+          n.2
+          (announces roster sender t.to own n.0 number content packet from (matched.prefixes t.index t.to t.at) n.1
+          (ap (λ (e : Endpoint). e.peer) n.2 ∙ (same ∙ t.is.to_is)) early t.is);
       different =
           different sender number content ds output.packets
           (subst (λ (ns : List ℕ). Differ ns) peers (peers_differ (readers_of all))) are;
     }
 
 -- what is sent claims the truth
-pub sent_true : (config : Config) (sender : Sender) (own : Endpoint) (part : Part) (ds : List Destination) (number : ℕ)
-    (content : DataContent) (packets : List Packet) → IsOnly config sender own → sender.moment < 2 ^ 63
+pub sent_true : (roster : Roster) (sender : Sender) (own : Endpoint) (part : Part) (ds : List Destination) (number : ℕ)
+    (content : DataContent) (packets : List Packet) → IsOnly roster sender own → sender.moment < 2 ^ 63
     → IsThere part own number content sender.moment → AreAnnouncements sender number content ds packets
-    → (packet : Packet) (claim : Claim) → Contains packets packet → Claims config packet.bytes claim
+    → (packet : Packet) (claim : Claim) → Contains packets packet → Claims roster packet.bytes claim
     → IsTrueAt own.peer part claim
-sent_true config sender own part ds number content packets only early there are packet claim among h =
+sent_true roster sender own part ds number content packets only early there are packet claim among h =
     let t = target sender number content ds packets are packet among in
-    announcement_true config sender t.to own part number content packet claim only early there t.is h
+    announcement_true roster sender t.to own part number content packet claim only early there t.is h

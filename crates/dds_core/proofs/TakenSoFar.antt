@@ -1,6 +1,6 @@
 -- How far a peer has come in a packet: the readers that were told, and the submessages that were taken up.
 use Rattle.std.specs.Prelude.{◌≡◌, ℕ, List, ◌++◌, drop, Option}
-use Rattle.dds_base.specs.declared.config.Config.{Config}
+use Rattle.dds_protocol.specs.Roster.{Roster}
 use Rattle.dds_base.specs.declared.guid.GuidPrefix.{GuidPrefix}
 use Rattle.rtps_wire.specs.declared.submessage.Submessage.{Submessage}
 use Rattle.dds_machine.specs.declared.reply.Move.{Move}
@@ -29,18 +29,18 @@ pub record TakesSome (old : PeerKept) (ready : List (Option Ready)) (index : ℕ
 -- for each state that the old values stand for, so many submessages at the front of the body were taken up with these
 -- moves, and what was then due was sent: whatever those that are left bring, it follows on
 pub record TakenTo (old : PeerKept) (source : GuidPrefix) (body left : List ℕ) (index : ℕ) (at : Receiver)
-    (moves : List Move) (now : PeerKept) (gone : Announced) (config : Config) (peer : Peer) : Type 0 where
+    (moves : List Move) (now : PeerKept) (gone : Announced) (roster : Roster) (peer : Peer) : Type 0 where
   pub state : State
   pub dues : List Due
-  pub stands : StandsFor now config (with_state peer state)
+  pub stands : StandsFor now roster (with_state peer state)
   pub sent : AreSent dues gone.packets.items gone.unsent
   pub on : (later : List Move) (refused : Option ℕ) (last : List Due) (after : State)
-      → FollowsBody config old.prefix peer.number index at left state later refused last after
-      → FollowsBody config old.prefix peer.number 0 (receiver_of source) body (state_of peer)
+      → FollowsBody roster old.prefix peer.number index at left state later refused last after
+      → FollowsBody roster old.prefix peer.number 0 (receiver_of source) body (state_of peer)
       (moves ++ later) refused (dues ++ last) after
 
 -- the same, said of each state that the old values stand for
 abbrev pub TakesTo : PeerKept → GuidPrefix → List ℕ → List ℕ → ℕ → Receiver → List Move → PeerKept → Announced → Type 0
 TakesTo old source body left index at moves now gone =
-    (config : Config) (peer : Peer) → StandsFor old config peer
-    → TakenTo old source body left index at moves now gone config peer
+    (roster : Roster) (peer : Peer) → StandsFor old roster peer
+    → TakenTo old source body left index at moves now gone roster peer

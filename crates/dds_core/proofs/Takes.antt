@@ -4,7 +4,7 @@ use Rattle.std.proofs.Common.{◌≡◌, ◌⊎◌, ℕ, ℤ, zero, suc, ◌+◌
 use Rattle.std.specs.Prelude.{max, if◌then◌else◌}
 use Rattle.std.specs.Option.{option_map_or}
 use Rattle.std.proofs.lemmas.Option.{same_Some}
-use Rattle.dds_base.specs.declared.config.Config.{Config}
+use Rattle.dds_protocol.specs.Roster.{Roster}
 use Rattle.dds_base.specs.declared.happening.Happening.{Happening}
 use Rattle.dds_base.specs.declared.happening.PassedRun.{PassedRun}
 use Rattle.dds_base.specs.declared.happening.Happening.TheVariants.{Heard as WasHeard}
@@ -45,10 +45,10 @@ use Rattle.dds_ends.proofs.Rows.{writers_of, proxied, IsFirstOf, is_first_of, on
 
 -- a reader of the peer, which is told something by the writer of one of its rows
 pub record Telling : Type 0 where
-  pub config : Config
+  pub roster : Roster
   pub peer : Peer
   pub kept : PeerKept
-  pub stands : StandsFor kept config peer
+  pub stands : StandsFor kept roster peer
   pub i : ℕ
   pub k : ReaderKept
   pub at : slice_get kept.readers i ≡ Some k
@@ -143,12 +143,12 @@ pub record After (c : Telling) (k' : ReaderKept) (how : Attachment) (t : Tracked
 -- it stands for the reader of that stage
 pub stage_ends : (c : Telling) (k' : ReaderKept) (how : Attachment) (t : Tracked) (rows : List WriterProxy)
     (happened : List Happening) (s : State) → Stage c how t rows happened s → After c k' how t happened
-    → StandsFor (with_reader c.kept c.i k') c.config (with_state c.peer s)
+    → StandsFor (with_reader c.kept c.i k') c.roster (with_state c.peer s)
 stage_ends c k' how t rows happened s g a =
-    subst (λ (p : Part). StandsFor (with_reader c.kept c.i k') c.config (record c.peer { part = p; known = s.known }))
+    subst (λ (p : Part). StandsFor (with_reader c.kept c.i k') c.roster (record c.peer { part = p; known = s.known }))
     (sym g.part)
     (own_reader_stepped c.kept c.i c.k k' rows
-    (record (reader_of c) { happened = happened }) s.known c.config c.peer c.stands c.at identity g.counts
+    (record (reader_of c) { happened = happened }) s.known c.roster c.peer c.stands c.at identity g.counts
     (λ w n apart. g.others w n (λ e. apart e.1)) (record {
       writers_are =
           g.writers ∙ ((stood c).writers_are ∙ ap (λ (ns : List WriterName). writers_of ns) (sym a.same.writers));

@@ -1,15 +1,12 @@
 -- The submessages of a message are taken up one after the other, as they are read.
-use Rattle.std.proofs.Common.{◌≡◌, ℕ, zero, suc, ◌+◌, ◌-◌, ◌≤◌, Some, None, List, [], ◌∷◌, ◌++◌, length, slice_get, subst, ap, sym, ◌∙◌, refl, inl, inr, arith, append_assoc, append-nil, Contains}
+use Rattle.std.proofs.Common.{◌≡◌, ℕ, ◌+◌, ◌-◌, ◌≤◌, Some, None, List, [], ◌∷◌, ◌++◌, length, subst, ap, sym, ◌∙◌, refl, inl, inr, arith, append_assoc, append-nil, Contains}
 use Rattle.std.specs.Prelude.{◌^◌, Result, Ok, Err, OnOk}
-use Rattle.std.proofs.lemmas.Option.{get_or_from_slice_get}
 use Rattle.rtps_sets.specs.NumberSet.{NumberSet}
 use Rattle.rtps_wire.specs.declared.acknack.AckNack.{AckNack as AckNackBody}
 use Rattle.rtps_wire.specs.declared.gap.Gap.{Gap as GapBody}
-use Rattle.dds_base.specs.declared.config.Config.{Config}
-use Rattle.dds_base.specs.declared.config.PeerConfig.{PeerConfig}
+use Rattle.dds_protocol.specs.Roster.{Roster}
 use Rattle.dds_base.specs.declared.guid.GuidPrefix.{GuidPrefix}
 use Rattle.dds_base.proofs.FieldLaws.{AreOctets}
-use Rattle.dds_base.specs.Checked.{unknown_prefix}
 use Rattle.dds_base.specs.Kept.{numbers_from}
 use Rattle.rtps_wire.specs.declared.message.Message.{Message}
 use Rattle.rtps_wire.specs.declared.submessage.Submessage.{Submessage}
@@ -34,12 +31,11 @@ use Rattle.rtps_reader.specs.Tracked.{Tracked}
 use Rattle.dds_base.specs.Counts.{is_later}
 use Rattle.dds_base.specs.declared.endpoint.Endpoint.{Endpoint}
 use Rattle.dds_protocol.specs.Backed.{IsBacked, IsClaimed, TookNone}
-use Rattle.dds_protocol.specs.Claims.{Receiver, receiver_of, after_submessage, IsNumbered}
+use Rattle.dds_protocol.specs.Claims.{Receiver, receiver_of, after_submessage}
 use Rattle.dds_machine.specs.Part.{place_of, heard_of}
 use Rattle.dds_protocol.specs.Peer.{Peer, packets_of, state_of, Delivery}
 use Rattle.dds_protocol.specs.DueMessages.{Due, AreSent, was_asked}
 use Rattle.dds_protocol.specs.Protocol.{State, InTurn, ReaderTakes, Takes, MayNeedMemory, FollowsMessage}
-use Rattle.dds_protocol.specs.Receipt.{prefix_of}
 use Rattle.dds_core.specs.declared.effects.Effects.{Effects}
 use Rattle.dds_ends.specs.declared.sending.Announced.{Announced}
 use Rattle.dds_ends.specs.Beating.{AddsTo}
@@ -61,12 +57,12 @@ use Rattle.dds_ends.proofs.Beating.{written_on}
 
 -- what is watched, who listens, and what was delivered, stand beside all else that a peer stands for
 pub stands_beside : (kept : PeerKept) (new watched : Watched) (places : Places) (delivered : List Delivery)
-    (config : Config) (peer : Peer) → watched ≡ new → StandsFor kept config peer
-    → StandsFor (record kept { watch = new }) config (record peer {
+    (roster : Roster) (peer : Peer) → watched ≡ new → StandsFor kept roster peer
+    → StandsFor (record kept { watch = new }) roster (record peer {
       part = record peer.part { dds = record peer.part.dds { watch = watched; listeners = places } };
       delivered = delivered;
     })
-stands_beside kept new watched places delivered config peer same s = record {
+stands_beside kept new watched places delivered roster peer same s = record {
   is_peer = s.is_peer;
   moment = s.moment;
   early = s.early;
@@ -77,44 +73,32 @@ stands_beside kept new watched places delivered config peer same s = record {
   watch = same;
 }
 
-pub stands_again : (kept : PeerKept) (config : Config) (peer after : Peer) → after.number ≡ peer.number
-    → after.part ≡ peer.part → after.known ≡ peer.known → StandsFor kept config peer → StandsFor kept config after
-stands_again kept config peer after number part known s =
-    subst (λ n. StandsFor kept config
+pub stands_again : (kept : PeerKept) (roster : Roster) (peer after : Peer) → after.number ≡ peer.number
+    → after.part ≡ peer.part → after.known ≡ peer.known → StandsFor kept roster peer → StandsFor kept roster after
+stands_again kept roster peer after number part known s =
+    subst (λ n. StandsFor kept roster
     (record { number = n; part = after.part; known = after.known; delivered = after.delivered })) (sym number)
-    (subst (λ p. StandsFor kept config
+    (subst (λ p. StandsFor kept roster
     (record { number = peer.number; part = p; known = after.known; delivered = after.delivered })) (sym part)
-    (subst (λ k. StandsFor kept config
+    (subst (λ k. StandsFor kept roster
     (record { number = peer.number; part = peer.part; known = k; delivered = after.delivered })) (sym known)
-    (stands_beside kept kept.watch peer.part.dds.watch peer.part.dds.listeners after.delivered config peer s.watch s)))
-
-pub numbered_prefix : (ps : List PeerConfig) (n : ℕ) (p : PeerConfig) → IsNumbered ps n p
-    → (numbered ps n (record { prefix = unknown_prefix; writers = []; readers = [] })).prefix ≡ p.prefix
-numbered_prefix ps zero p at = let low = at.0 in absurd (omega (arith, low))
-numbered_prefix ps (suc n) p at =
-    let index : suc n - 1 ≡ n = omega arith in
-    ap (λ (x : PeerConfig). x.prefix)
-    (get_or_from_slice_get ps n p _ (subst (λ (m : ℕ). slice_get ps m ≡ Some p) index at.1))
-
-pub prefix_is : (old : PeerKept) (config : Config) (peer : Peer) → StandsFor old config peer
-    → prefix_of config peer.number ≡ old.prefix
-prefix_is old config peer s = numbered_prefix config.peers peer.number s.is_peer.own s.is_peer.at ∙ sym s.is_peer.prefix
+    (stands_beside kept kept.watch peer.part.dds.watch peer.part.dds.listeners after.delivered roster peer s.watch s)))
 
 -- ---- one submessage
 
 -- one that is no ACKNACK is taken up by the peer's readers
-takes_by_readers : (config : Config) (own : GuidPrefix) (peer : ℕ) (at : Receiver) (s : Submessage)
+takes_by_readers : (roster : Roster) (own : GuidPrefix) (peer : ℕ) (at : Receiver) (s : Submessage)
     → ((a : AckNackBody) → s ≡ AckNack a → ⊥) → (old : State) (made : List Move) (dues : List Due) (new : State)
-    → InTurn (ReaderTakes config own peer at s) (numbers_from 1 (length old.part.rtps.readers)) old made dues new
-    → Takes config own peer at s old made dues new
-takes_by_readers config own peer at (AckNack a) other old made dues new h = absurd (other a refl)
-takes_by_readers config own peer at (Data d) other old made dues new h = h
-takes_by_readers config own peer at (Gap g) other old made dues new h = h
-takes_by_readers config own peer at (Heartbeat b) other old made dues new h = h
-takes_by_readers config own peer at (InfoDst p) other old made dues new h = h
-takes_by_readers config own peer at (InfoTs t) other old made dues new h = h
-takes_by_readers config own peer at (Other n) other old made dues new h = h
-takes_by_readers config own peer at Pad other old made dues new h = h
+    → InTurn (ReaderTakes roster own peer at s) (numbers_from 1 (length old.part.rtps.readers)) old made dues new
+    → Takes roster own peer at s old made dues new
+takes_by_readers roster own peer at (AckNack a) other old made dues new h = absurd (other a refl)
+takes_by_readers roster own peer at (Data d) other old made dues new h = h
+takes_by_readers roster own peer at (Gap g) other old made dues new h = h
+takes_by_readers roster own peer at (Heartbeat b) other old made dues new h = h
+takes_by_readers roster own peer at (InfoDst p) other old made dues new h = h
+takes_by_readers roster own peer at (InfoTs t) other old made dues new h = h
+takes_by_readers roster own peer at (Other n) other old made dues new h = h
+takes_by_readers roster own peer at Pad other old made dues new h = h
 
 pub readers_take : (old new : PeerKept) (at : Receiver) (s : Submessage) (effects after : Effects)
     → ((a : AckNackBody) → s ≡ AckNack a → ⊥) → TellsReaders old at s effects new after
@@ -122,14 +106,14 @@ pub readers_take : (old new : PeerKept) (at : Receiver) (s : Submessage) (effect
 readers_take old new at s effects after other h = record {
   made = h.made;
   after_is = h.after_is;
-  takes = λ config peer stands.
-      let r : ReadersTook config old.prefix at s (length old.readers) peer h.made effects.sent new after.sent =
-      h.takes config peer stands in
+  takes = λ roster peer stands.
+      let r : ReadersTook roster old.prefix at s (length old.readers) peer h.made effects.sent new after.sent =
+      h.takes roster peer stands in
       record {
         state = r.state;
         dues = r.dues;
-        takes = takes_by_readers config old.prefix peer.number at s other (state_of peer) h.made r.dues r.state
-            (subst (λ (n : ℕ). InTurn (ReaderTakes config old.prefix peer.number at s) (numbers_from 1 n)
+        takes = takes_by_readers roster old.prefix peer.number at s other (state_of peer) h.made r.dues r.state
+            (subst (λ (n : ℕ). InTurn (ReaderTakes roster old.prefix peer.number at s) (numbers_from 1 n)
             (state_of peer) h.made r.dues r.state) (sym stands.readers.rows) r.turn);
         stands = r.stands;
         adds = r.adds;
@@ -162,15 +146,15 @@ written_adds a b sent gone h more =
 pub takes_none : (old : PeerKept) (source : GuidPrefix) (body : List ℕ) (at : Receiver) (moves : List Move)
     (gone : Announced) → at ≡ receiver_of source → moves ≡ [] → gone.packets.items ≡ [] → gone.unsent ≡ 0
     → TakesTo old source body body 0 at moves old gone
-takes_none old source body at moves gone begins none quiet zero_lost config peer s = record {
+takes_none old source body at moves gone begins none quiet zero_lost roster peer s = record {
   state = state_of peer;
   dues = [];
-  stands = stands_again old config peer (with_state peer (state_of peer)) refl refl refl s;
+  stands = stands_again old roster peer (with_state peer (state_of peer)) refl refl refl s;
   sent = (quiet, zero_lost);
   on = λ later refused last after h.
-      subst (λ (ms : List Move). FollowsBody config old.prefix peer.number 0
+      subst (λ (ms : List Move). FollowsBody roster old.prefix peer.number 0
       (receiver_of source) body (state_of peer) (ms ++ later) refused last after) (sym none)
-      (subst (λ (r : Receiver). FollowsBody config old.prefix peer.number 0 r body
+      (subst (λ (r : Receiver). FollowsBody roster old.prefix peer.number 0 r body
       (state_of peer) later refused last after) begins h);
 }
 
@@ -180,19 +164,19 @@ pub takes_more : (old now new : PeerKept) (source : GuidPrefix) (body left : Lis
     → TakesTo old source body left index at effects.moves.items now effects.sent → ReadsFirst left submessage rest
     → now.prefix ≡ old.prefix → TakesOneMore now at submessage effects new after
     → TakesTo old source body rest (index + 1) (after_submessage old.prefix at submessage) after.moves.items new after.sent
-takes_more old now new source body left index at submessage rest effects after taken first same takes config peer s =
+takes_more old now new source body left index at submessage rest effects after taken first same takes roster peer s =
     record {
       state = r.state;
       dues = t.dues ++ r.dues;
       stands =
-          stands_again new config (with_state (with_state peer t.state) r.state)
+          stands_again new roster (with_state (with_state peer t.state) r.state)
           (with_state peer r.state) refl refl refl r.stands;
       sent = written_adds t.dues r.dues effects.sent after.sent t.sent r.adds;
       on = λ later refused last end h.
-          let took : Takes config old.prefix peer.number at submessage t.state takes.made r.dues r.state =
-          subst (λ (p : GuidPrefix). Takes config p peer.number at submessage t.state takes.made r.dues r.state)
+          let took : Takes roster old.prefix peer.number at submessage t.state takes.made r.dues r.state =
+          subst (λ (p : GuidPrefix). Takes roster p peer.number at submessage t.state takes.made r.dues r.state)
           same r.takes in
-          let together : FollowsBody config old.prefix peer.number index at left t.state (takes.made ++ later) refused
+          let together : FollowsBody roster old.prefix peer.number index at left t.state (takes.made ++ later) refused
           (r.dues ++ last) end =
           record {
             submessages = submessage ∷ h.submessages;
@@ -200,10 +184,10 @@ takes_more old now new source body left index at submessage rest effects after t
             is_read = reads_on left submessage rest h.submessages h.left first h.is_read;
             follows = inr (takes.made, later, r.dues, last, r.state, refl, refl, took, h.follows);
           } in
-          subst (λ (ms : List Move). FollowsBody config old.prefix peer.number 0
+          subst (λ (ms : List Move). FollowsBody roster old.prefix peer.number 0
           (receiver_of source) body (state_of peer) ms refused ((t.dues ++ r.dues) ++ last) end)
           (sym (append_assoc moves takes.made later) ∙ ap (λ (ms : List Move). ms ++ later) (sym takes.after_is))
-          (subst (λ (ds : List Due). FollowsBody config old.prefix peer.number 0
+          (subst (λ (ds : List Due). FollowsBody roster old.prefix peer.number 0
           (receiver_of source) body (state_of peer) (moves ++ (takes.made ++ later)) refused ds end)
           (sym (append_assoc t.dues r.dues last)) (t.on (takes.made ++ later) refused (r.dues ++ last) end together));
     }
@@ -211,24 +195,24 @@ takes_more old now new source body left index at submessage rest effects after t
     moves : List Move
     moves = effects.moves.items
 
-    t : TakenTo old source body left index at moves now effects.sent config peer
-    t = taken config peer s
+    t : TakenTo old source body left index at moves now effects.sent roster peer
+    t = taken roster peer s
 
-    r : TookSubmessage config now.prefix at submessage (with_state peer t.state) takes.made effects.sent new after.sent
-    r = takes.takes config (with_state peer t.state) t.stands
+    r : TookSubmessage roster now.prefix at submessage (with_state peer t.state) takes.made effects.sent new after.sent
+    r = takes.takes roster (with_state peer t.state) t.stands
 
 -- what was taken up is all: what is left does nothing
 ends_here : (old now : PeerKept) (source : GuidPrefix) (body left : List ℕ) (index : ℕ) (at : Receiver)
-    (report : Report) (gone : Announced) (config : Config) (peer : Peer)
-    (t : TakenTo old source body left index at report.moves now gone config peer)
-    → FollowsBody config old.prefix peer.number index at left t.state [] report.refused [] t.state
-    → FollowsBody config old.prefix peer.number 0 (receiver_of source) body
+    (report : Report) (gone : Announced) (roster : Roster) (peer : Peer)
+    (t : TakenTo old source body left index at report.moves now gone roster peer)
+    → FollowsBody roster old.prefix peer.number index at left t.state [] report.refused [] t.state
+    → FollowsBody roster old.prefix peer.number 0 (receiver_of source) body
     (state_of peer) report.moves report.refused t.dues t.state
-ends_here old now source body left index at report gone config peer t end =
-    subst (λ (ms : List Move). FollowsBody config old.prefix peer.number 0
+ends_here old now source body left index at report gone roster peer t end =
+    subst (λ (ms : List Move). FollowsBody roster old.prefix peer.number 0
     (receiver_of source) body (state_of peer) ms report.refused t.dues t.state)
     (append-nil report.moves)
-    (subst (λ (ds : List Due). FollowsBody config old.prefix peer.number 0
+    (subst (λ (ds : List Due). FollowsBody roster old.prefix peer.number 0
     (receiver_of source) body (state_of peer) (report.moves ++ []) report.refused ds t.state)
     (append-nil t.dues)
     (t.on [] report.refused [] t.state end))
@@ -244,14 +228,14 @@ rest_octets bytes s rest first octets =
 pub takes_all : (old now : PeerKept) (source : GuidPrefix) (body left : List ℕ) (index : ℕ) (at : Receiver)
     (report : Report) (gone : Announced) → TakesTo old source body left index at report.moves now gone → IsEnd left
     → report.refused ≡ None → TakesBody old source body report now gone
-takes_all old now source body left index at report gone taken ends fine config peer s =
-    let t : TakenTo old source body left index at report.moves now gone config peer = taken config peer s in
-    let end : FollowsBody config old.prefix peer.number index at left t.state [] report.refused [] t.state =
+takes_all old now source body left index at report gone taken ends fine roster peer s =
+    let t : TakenTo old source body left index at report.moves now gone roster peer = taken roster peer s in
+    let end : FollowsBody roster old.prefix peer.number index at left t.state [] report.refused [] t.state =
     record { submessages = []; left = left; is_read = (ends, refl); follows = (fine, (refl, refl, refl)) } in
     record {
       state = t.state;
       dues = t.dues;
-      follows = ends_here old now source body left index at report gone config peer t end;
+      follows = ends_here old now source body left index at report gone roster peer t end;
       stands = t.stands;
       sent = t.sent;
     }
@@ -263,12 +247,12 @@ pub takes_some_of : (old now new : PeerKept) (source : GuidPrefix) (body left : 
     → NeedsMemory now at submessage → StandsAsWell now new → gone ≡ sent → ReadsFirst left submessage rest
     → Reading rest → report.refused ≡ Some index → TakesBody old source body report new gone
 takes_some_of old now new source body left index at submessage rest report sent gone taken own needs well same first
-    later refused config peer s =
-    let t : TakenTo old source body left index at report.moves now sent config peer = taken config peer s in
-    let may : MayNeedMemory config old.prefix peer.number at submessage t.state =
-    subst (λ (p : GuidPrefix). MayNeedMemory config p peer.number at submessage t.state) own
-    (needs config (with_state peer t.state) t.stands) in
-    let end : FollowsBody config old.prefix peer.number index at left t.state [] report.refused [] t.state =
+    later refused roster peer s =
+    let t : TakenTo old source body left index at report.moves now sent roster peer = taken roster peer s in
+    let may : MayNeedMemory roster old.prefix peer.number at submessage t.state =
+    subst (λ (p : GuidPrefix). MayNeedMemory roster p peer.number at submessage t.state) own
+    (needs roster (with_state peer t.state) t.stands) in
+    let end : FollowsBody roster old.prefix peer.number index at left t.state [] report.refused [] t.state =
     record {
       submessages = submessage ∷ later.submessages;
       left = later.left;
@@ -278,8 +262,8 @@ takes_some_of old now new source body left index at submessage rest report sent 
     record {
       state = t.state;
       dues = t.dues;
-      follows = ends_here old now source body left index at report sent config peer t end;
-      stands = well config (with_state peer t.state) t.stands;
+      follows = ends_here old now source body left index at report sent roster peer t end;
+      stands = well roster (with_state peer t.state) t.stands;
       sent = subst (λ (x : Announced). AreSent t.dues x.packets.items x.unsent) (sym same) t.sent;
     }
 
@@ -299,8 +283,8 @@ takes_some old now new source body left index at submessage rest report sent gon
 pub receives_message : (old new : PeerKept) (bytes : List ℕ) (source : GuidPrefix) (body : List ℕ) (report : Report)
     (gone : Announced) → HasHeader bytes source body → TakesBody old source body report new gone
     → ReceivesPacket old bytes report new gone
-receives_message old new bytes source body report gone header takes config peer s =
-    let r : TookBody config peer old.prefix source body report new gone = takes config peer s in
+receives_message old new bytes source body report gone header takes roster peer s =
+    let r : TookBody roster peer old.prefix source body report new gone = takes roster peer s in
     let f = r.follows in
     record {
       state = r.state;
@@ -310,8 +294,8 @@ receives_message old new bytes source body report gone header takes config peer 
         offset = length bytes - length f.left;
         is_read = message_read bytes body f.left source f.submessages header f.is_read;
         follows =
-            subst (λ (p : GuidPrefix). FollowsMessage config p peer.number 0 (receiver_of source) f.submessages
-            (state_of peer) report.moves report.refused r.dues r.state) (sym (prefix_is old config peer s)) f.follows;
+            subst (λ (p : GuidPrefix). FollowsMessage roster p peer.number 0 (receiver_of source) f.submessages
+            (state_of peer) report.moves report.refused r.dues r.state) (sym s.is_peer.prefix) f.follows;
       });
       stands = r.stands;
       sent = r.sent;
@@ -324,14 +308,14 @@ no_move = record { moves = []; refused = None }
 pub receives_nothing : (old : PeerKept) (bytes : List ℕ) (gone : Announced) → gone.packets.items ≡ [] → gone.unsent ≡ 0
     → ((source : GuidPrefix) (body : List ℕ) → HasHeader bytes source body → ⊥)
     → ReceivesPacket old bytes no_move old gone
-receives_nothing old bytes gone quiet zero_lost none config peer s =
+receives_nothing old bytes gone quiet zero_lost none roster peer s =
     let unread : (message : Message) (offset : ℕ) → ReadsMessage bytes message offset → ⊥ =
     λ message offset r. none message.prefix r.body r.header in
     record {
       state = state_of peer;
       dues = [];
       takes = inr (record { unread = unread; moves = refl; refused = refl; after = refl }, refl, refl);
-      stands = stands_again old config peer (with_state peer (state_of peer)) refl refl refl s;
+      stands = stands_again old roster peer (with_state peer (state_of peer)) refl refl refl s;
       sent = (quiet, zero_lost);
     }
 
@@ -364,13 +348,13 @@ bounded id flags body (Other d) h = tt
 -- ---- calls and ticks
 
 -- what a call or a tick leaves is sound, as what was known is known, and the places are those of before
-pub sound_still : (config : Config) (old new : Peer) → new.number ≡ old.number
+pub sound_still : (roster : Roster) (old new : Peer) → new.number ≡ old.number
     → ((w : Endpoint) (r : ℕ) → new.known.tracked w r ≡ old.known.tracked w r)
-    → new.delivered ≡ old.delivered → new.part.rtps.readers ≡ old.part.rtps.readers → IsSound config old
-    → IsSound config new
-sound_still config old new number known delivered readers b =
-    subst (λ n. IsBacked config n (packets_of new.delivered) new.delivered (state_of new)) (sym number)
-    (subst (λ ds. IsBacked config old.number (packets_of ds) ds (state_of new)) (sym delivered)
+    → new.delivered ≡ old.delivered → new.part.rtps.readers ≡ old.part.rtps.readers → IsSound roster old
+    → IsSound roster new
+sound_still roster old new number known delivered readers b =
+    subst (λ n. IsBacked roster n (packets_of new.delivered) new.delivered (state_of new)) (sym number)
+    (subst (λ ds. IsBacked roster old.number (packets_of ds) ds (state_of new)) (sym delivered)
     (record {
       place = λ w r p e.
           ap (λ (t : Tracked). t.place) (known w r)
@@ -379,10 +363,10 @@ sound_still config old new number known delivered readers b =
           ap (λ (t : Tracked). t.place) (known w r)
           ∙ b.unknown w r (ap (λ xs. place_of (numbered xs r []) w) (sym readers) ∙ e);
       claimed = λ w r.
-          subst (λ (t : Tracked). IsClaimed config old.number (packets_of old.delivered) w r t) (sym (known w r))
+          subst (λ (t : Tracked). IsClaimed roster old.number (packets_of old.delivered) w r t) (sym (known w r))
           (b.claimed w r);
       newest = λ w r has.
-          subst (λ (t : Tracked). TookNone config old.number old.delivered w r t) (sym (known w r))
+          subst (λ (t : Tracked). TookNone roster old.number old.delivered w r t) (sym (known w r))
           (b.newest w r (subst (λ xs. HasNumber xs r) readers has));
       heard = λ w r count e.
           ap (λ (t : Tracked). is_later t.count count) (known w r)
@@ -392,28 +376,28 @@ sound_still config old new number known delivered readers b =
 pub sound_call : {tests : Tests} (old new : PeerKept) (call : Call) (output : Output)
     → StepsBy tests old (event.Call call) output new → Sends old (event.Call call) output
     → SoundStepsBy tests old (event.Call call) output new
-sound_call {tests} old new call output steps sends config peer s sound =
-    let r = steps config peer s in
-    let told : IsSound config (record peer { part = r.0.part }) =
-    call_backed config peer.number (packets_of peer.delivered) peer.delivered (state_of peer) tests call output.reply
+sound_call {tests} old new call output steps sends roster peer s sound =
+    let r = steps roster peer s in
+    let told : IsSound roster (record peer { part = r.0.part }) =
+    call_backed roster peer.number (packets_of peer.delivered) peer.delivered (state_of peer) tests call output.reply
     r.0.part r.1.step.0 sound in (
       r.0,
       r.1,
       r.2,
-      sound_still config (record peer { part = r.0.part }) r.0 r.1.same_number
+      sound_still roster (record peer { part = r.0.part }) r.0 r.1.same_number
           (call_knows peer call output.reply r.0 r.1.knows).tracked r.1.step.1 refl told,
-      sends config peer s,
+      sends roster peer s,
     )
 
 pub sound_tick : (old new : PeerKept) (now : ℕ) (output : Output) → Steps old (event.Tick now) output new
     → Sends old (event.Tick now) output → SoundSteps old (event.Tick now) output new
-sound_tick old new now output steps sends config peer s sound =
-    let r = steps config peer s in (
+sound_tick old new now output steps sends roster peer s sound =
+    let r = steps roster peer s in (
       r.0,
       r.1,
       r.2,
-      sound_still config peer r.0 r.1.same_number (tick_knows peer now output.reply r.0 r.1.knows).tracked r.1.step.1
+      sound_still roster peer r.0 r.1.same_number (tick_knows peer now output.reply r.0 r.1.knows).tracked r.1.step.1
           (TickStep-rows peer.part now output.reply r.0.part
           (was_asked peer.known.answered peer.part, r.1.step.0)) sound,
-      sends config peer s,
+      sends roster peer s,
     )

@@ -26,10 +26,10 @@ pub resumes : (old new : PeerKept) (reader i : ℕ) (report : Report) → reader
     → ResumesAll old i report new → SoundSteps old (event.Resume reader) (silent (Reported report)) new
 resumes old new reader i report is within resumed =
     subst (λ (n : ℕ). SoundSteps old (event.Resume n) (silent (Reported report)) new) (number_is reader i is)
-    (λ config peer s sound.
-    let r = resumed config peer s in
+    (λ roster peer s sound.
+    let r = resumed roster peer s in
     let tried =
-    resumes_tried config peer.number (packets_of peer.delivered) peer.delivered (suc i) (state_of peer) report r.state sound
+    resumes_tried roster peer.number (packets_of peer.delivered) peer.delivered (suc i) (state_of peer) report r.state sound
     r.resumes in
     let after : Peer = record {
       number = peer.number;
@@ -45,14 +45,14 @@ resumes old new reader i report is within resumed =
         step = (((omega arith, omega (arith, count, within)), tried.places, tried.moved), refl);
         sent = λ packet claim among says. absurd (no_packet packet among);
       },
-      stands_again new config (with_state peer r.state) after refl refl refl r.stands,
+      stands_again new roster (with_state peer r.state) after refl refl refl r.stands,
       tried.backed,
       (silent_sends (Reported report), r.resumes),
     ))
 
 pub resumes_none : (old : PeerKept) (reader : ℕ) → is_number reader (length old.readers) ≡ false
     → SoundSteps old (event.Resume reader) (silent (Refused BadParameter)) old
-resumes_none old reader none config peer s sound = (
+resumes_none old reader none roster peer s sound = (
   peer,
   record {
     same_number = refl;

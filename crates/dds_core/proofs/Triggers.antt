@@ -5,7 +5,7 @@ use Rattle.std.specs.List.{list_any}
 use Rattle.std.proofs.lemmas.Bool.Decides.{nat_tests}
 use Rattle.dds_base.specs.declared.code.Code.{Code}
 use Rattle.dds_base.specs.declared.code.Code.TheVariants.{Memory, Timeout}
-use Rattle.dds_base.specs.declared.config.Config.{Config}
+use Rattle.dds_protocol.specs.Roster.{Roster}
 use Rattle.dds_base.specs.declared.happening.Happening.{Happening}
 use Rattle.dds_base.specs.declared.happening.Happening.TheVariants.{Read as HasRead, Took}
 use Rattle.dds_base.specs.declared.happening.SamplePosition.{SamplePosition}
@@ -40,16 +40,16 @@ not_by_condition entry refusal test part reader selection code some =
     subst (λ (o : Option Code). AnswersByCondition entry o test part reader selection (Refused code) part.dds)
     (sym some) (refl, refl)
 
-pub not_accessed_by : {tests : Tests} (kind : AccessKind) (kept : PeerKept) (config : Config) (peer : Peer)
-    → StandsFor kept config peer → (reader : ℕ) (scope : Scope) (condition : ℕ) (code : Code)
+pub not_accessed_by : {tests : Tests} (kind : AccessKind) (kept : PeerKept) (roster : Roster) (peer : Peer)
+    → StandsFor kept roster peer → (reader : ℕ) (scope : Scope) (condition : ℕ) (code : Code)
     → condition_refusal peer.part reader scope condition ≡ Some code
-    → FollowsBy tests kept config peer (event.Call (condition_call kind reader scope condition)) (silent (Refused code))
-not_accessed_by {tests} Reading kept config peer s reader scope condition code some =
-    unchanging_call kept config peer s (call.ReadByCondition reader scope condition) (Refused code) refl
+    → FollowsBy tests kept roster peer (event.Call (condition_call kind reader scope condition)) (silent (Refused code))
+not_accessed_by {tests} Reading kept roster peer s reader scope condition code some =
+    unchanging_call kept roster peer s (call.ReadByCondition reader scope condition) (Refused code) refl
     (not_by_condition HasRead _ (condition_test tests peer.part condition) peer.part reader
     (condition_selection peer.part scope condition) code some)
-not_accessed_by {tests} Taking kept config peer s reader scope condition code some =
-    unchanging_call kept config peer s (call.TakeByCondition reader scope condition) (Refused code) refl
+not_accessed_by {tests} Taking kept roster peer s reader scope condition code some =
+    unchanging_call kept roster peer s (call.TakeByCondition reader scope condition) (Refused code) refl
     (not_by_condition Took _ (condition_test tests peer.part condition) peer.part reader
     (condition_selection peer.part scope condition) code some)
 
@@ -127,28 +127,28 @@ look_is_refused (c ∷ cs) timed_out part wait_set code some =
     (Refused code) part.dds) (sym some) (refl, refl))
 
 -- the wait goes on
-pub waits_on : {tests : Tests} (kept : PeerKept) (config : Config) (peer : Peer) → StandsFor kept config peer
+pub waits_on : {tests : Tests} (kept : PeerKept) (roster : Roster) (peer : Peer) → StandsFor kept roster peer
     → (wait_set : ℕ) (active : List Cond)
     → active ≡ active_of (trigger_value tests peer.part) (conditions_of peer.part.dds.watch wait_set) → active ≡ []
     → is_timed_out (at_number kept.watch.wait_sets wait_set) kept.moment ≡ false → used_by kept.watch wait_set ≡ None
-    → FollowsBy tests kept config peer (event.Call (call.WaitLook wait_set)) (silent Waiting)
-waits_on {tests} kept config peer s wait_set active is none early used =
-    unchanging_call kept config peer s (call.WaitLook wait_set) Waiting refl
+    → FollowsBy tests kept roster peer (event.Call (call.WaitLook wait_set)) (silent Waiting)
+waits_on {tests} kept roster peer s wait_set active is none early used =
+    unchanging_call kept roster peer s (call.WaitLook wait_set) Waiting refl
     (look_goes_on _ _ peer.part wait_set (sym is ∙ none)
     (ap (λ (w : Watched). is_timed_out (at_number w.wait_sets wait_set) peer.part.dds.moment) s.watch
     ∙ (ap (λ (m : ℕ). is_timed_out (at_number kept.watch.wait_sets wait_set) m) s.moment ∙ early))
     (ap (λ (w : Watched). used_by w wait_set) s.watch ∙ used))
 
 -- it ends at its deadline
-pub times_out : {tests : Tests} (kept : PeerKept) (new : Watched) (config : Config) (peer : Peer)
-    → StandsFor kept config peer → (wait_set : ℕ) (active : List Cond)
+pub times_out : {tests : Tests} (kept : PeerKept) (new : Watched) (roster : Roster) (peer : Peer)
+    → StandsFor kept roster peer → (wait_set : ℕ) (active : List Cond)
     → active ≡ active_of (trigger_value tests peer.part) (conditions_of peer.part.dds.watch wait_set) → active ≡ []
     → is_timed_out (at_number kept.watch.wait_sets wait_set) kept.moment ≡ true → used_by kept.watch wait_set ≡ None
     → new ≡ with_deadline kept.watch wait_set None
-    → FollowsBy tests (record kept { watch = new }) config peer (event.Call (call.WaitLook wait_set))
+    → FollowsBy tests (record kept { watch = new }) roster peer (event.Call (call.WaitLook wait_set))
     (silent (Refused Timeout))
-times_out {tests} kept new config peer s wait_set active is none late used ended =
-    watched_call kept new config peer s (call.WaitLook wait_set) (Refused Timeout) refl
+times_out {tests} kept new roster peer s wait_set active is none late used ended =
+    watched_call kept new roster peer s (call.WaitLook wait_set) (Refused Timeout) refl
     (look_times_out _ _ peer.part wait_set new (sym is ∙ none)
     (ap (λ (w : Watched). is_timed_out (at_number w.wait_sets wait_set) peer.part.dds.moment) s.watch
     ∙ (ap (λ (m : ℕ). is_timed_out (at_number kept.watch.wait_sets wait_set) m) s.moment ∙ late))
@@ -156,22 +156,22 @@ times_out {tests} kept new config peer s wait_set active is none late used ended
     (ended ∙ ap (λ (w : Watched). with_deadline w wait_set None) (sym s.watch)))
 
 -- nobody waits there
-pub no_wait : {tests : Tests} (kept : PeerKept) (config : Config) (peer : Peer) → StandsFor kept config peer
+pub no_wait : {tests : Tests} (kept : PeerKept) (roster : Roster) (peer : Peer) → StandsFor kept roster peer
     → (wait_set : ℕ) (code : Code) → used_by kept.watch wait_set ≡ Some code
-    → FollowsBy tests kept config peer (event.Call (call.WaitLook wait_set)) (silent (Refused code))
-no_wait {tests} kept config peer s wait_set code some =
-    unchanging_call kept config peer s (call.WaitLook wait_set) (Refused code) refl
+    → FollowsBy tests kept roster peer (event.Call (call.WaitLook wait_set)) (silent (Refused code))
+no_wait {tests} kept roster peer s wait_set code some =
+    unchanging_call kept roster peer s (call.WaitLook wait_set) (Refused code) refl
     (look_is_refused _ _ peer.part wait_set code (ap (λ (w : Watched). used_by w wait_set) s.watch ∙ some))
 
 -- it ends with the active conditions
-pub is_over_with : {tests : Tests} (kept : PeerKept) (new : Watched) (config : Config) (peer : Peer)
-    → StandsFor kept config peer → (wait_set : ℕ) (active : List Cond) → (active ≡ [] → ⊥)
+pub is_over_with : {tests : Tests} (kept : PeerKept) (new : Watched) (roster : Roster) (peer : Peer)
+    → StandsFor kept roster peer → (wait_set : ℕ) (active : List Cond) → (active ≡ [] → ⊥)
     → active ≡ active_of (trigger_value tests peer.part) (conditions_of peer.part.dds.watch wait_set)
     → used_by kept.watch wait_set ≡ None → new ≡ with_deadline kept.watch wait_set None
-    → FollowsBy tests (record kept { watch = new }) config peer (event.Call (call.WaitLook wait_set))
+    → FollowsBy tests (record kept { watch = new }) roster peer (event.Call (call.WaitLook wait_set))
     (silent (Active active))
-is_over_with {tests} kept new config peer s wait_set active some is used ended =
-    watched_call kept new config peer s (call.WaitLook wait_set) (Active active) refl
+is_over_with {tests} kept new roster peer s wait_set active some is used ended =
+    watched_call kept new roster peer s (call.WaitLook wait_set) (Active active) refl
     (look_is_active _ _ peer.part wait_set _ _ (λ nil. some (is ∙ nil))
     (inl (subst (λ (o : Option Code). IsAnsweredWatching o
     (Active (active_of (trigger_value tests peer.part) (conditions_of peer.part.dds.watch wait_set)))
@@ -184,14 +184,14 @@ is_over_with {tests} kept new config peer s wait_set active some is used ended =
     ))))
 
 -- or finds no memory for them
-pub lacks_memory : {tests : Tests} (kept : PeerKept) (config : Config) (peer : Peer) → StandsFor kept config peer
+pub lacks_memory : {tests : Tests} (kept : PeerKept) (roster : Roster) (peer : Peer) → StandsFor kept roster peer
     → (wait_set : ℕ) (code : Code) → code ≡ Memory
     → (active_of (trigger_value tests peer.part) (conditions_of peer.part.dds.watch wait_set) ≡ [] → ⊥)
     → used_by kept.watch wait_set ≡ None
-    → FollowsBy tests kept config peer (event.Call (call.WaitLook wait_set)) (silent (Refused code))
-lacks_memory {tests} kept config peer s wait_set code is some used =
-    subst (λ (x : Code). FollowsBy tests kept config peer (event.Call (call.WaitLook wait_set)) (silent (Refused x)))
+    → FollowsBy tests kept roster peer (event.Call (call.WaitLook wait_set)) (silent (Refused code))
+lacks_memory {tests} kept roster peer s wait_set code is some used =
+    subst (λ (x : Code). FollowsBy tests kept roster peer (event.Call (call.WaitLook wait_set)) (silent (Refused x)))
     (sym is)
-    (unchanging_call kept config peer s (call.WaitLook wait_set) (Refused Memory) refl
+    (unchanging_call kept roster peer s (call.WaitLook wait_set) (Refused Memory) refl
     (look_is_active _ _ peer.part wait_set _ _ some
     (inr (ap (λ (w : Watched). used_by w wait_set) s.watch ∙ used, refl, refl, refl))))

@@ -1,16 +1,16 @@
 -- The peer's readers take a submessage up, one after the other, by the rules of the protocol.
-use Rattle.std.proofs.Common.{◌≡◌, ℕ, zero, suc, ◌+◌, ◌<◌, ◌≤◌, Bool, true, false, List, [], ◌∷◌, ◌++◌, Option, Some, None, drop, length, slice_get, refl, ap, sym, ◌∙◌, subst, arith, inl, inr, ⊎_elim, append_assoc, nat_lt}
+use Rattle.std.proofs.Common.{◌≡◌, ℕ, zero, suc, ◌+◌, ◌<◌, ◌≤◌, Bool, true, false, List, [], ◌∷◌, ◌++◌, Option, Some, None, drop, length, slice_get, refl, ap, sym, ◌∙◌, subst, arith, inl, inr, append_assoc, nat_lt}
 use Rattle.std.specs.Prelude.{IfSome, nat_le, ◌&&◌, if◌then◌else◌}
 use Rattle.std.proofs.lemmas.Option.{same_Some}
 use Rattle.std.proofs.lemmas.List.{append-nil}
 use Rattle.dds_base.specs.declared.change.Change.{Change}
-use Rattle.dds_base.specs.declared.config.Config.{Config}
+use Rattle.dds_protocol.specs.Roster.{Roster}
 use Rattle.dds_base.specs.declared.guid.EntityId.{EntityId}
 use Rattle.dds_base.specs.declared.guid.Guid.{Guid}
 use Rattle.dds_base.specs.declared.guid.GuidPrefix.{GuidPrefix}
 use Rattle.dds_base.specs.declared.qos.ReaderQos.{ReaderQos}
 use Rattle.dds_base.specs.Kept.{numbers_from}
-use Rattle.dds_base.specs.Matched.{is_reliable, is_reliable_reader}
+use Rattle.dds_base.specs.Matched.{is_reliable}
 use Rattle.dds_cache.specs.Standing.{qos_of}
 use Rattle.rtps_reader.specs.declared.attachment.Attachment.{Attachment as AttachmentOf}
 use Rattle.rtps_reader.specs.declared.attachment.Attachment.TheVariants as standing
@@ -36,8 +36,7 @@ use Rattle.dds_machine.specs.declared.reply.Move.TheVariants.{Place}
 use Rattle.dds_protocol.specs.Claims.{Receiver, IsToReader, Names}
 use Rattle.dds_protocol.specs.Peer.{Peer, state_of}
 use Rattle.dds_protocol.specs.DueMessages.{Due, acknacks_due}
-use Rattle.dds_protocol.specs.Protocol.{Idles, State, InTurn, MayNeedMemory, heard_as, ReaderTakes, may_do, MeetsChange, MeetsGap, MeetsHeartbeat, WhereMatched, stands_to}
-use Rattle.dds_protocol.proofs.Finding.{finds_writer}
+use Rattle.dds_protocol.specs.Protocol.{State, InTurn, MayNeedMemory, heard_as, ReaderTakes, may_do, MeetsChange, MeetsGap, MeetsHeartbeat, stands_to}
 use Rattle.dds_core.specs.declared.delivery.FirstNamed.{FirstNamed}
 use Rattle.dds_ends.specs.declared.matching.WriterName.{WriterName}
 use Rattle.dds_core.specs.declared.effects.Effects.{Effects}
@@ -48,8 +47,8 @@ use Rattle.dds_ends.specs.declared.reader_told.Told.TheVariants as told
 use Rattle.dds_ends.specs.Identity.{reliable_in}
 use Rattle.dds_ends.specs.Kept.{ReaderKept}
 use Rattle.dds_core.specs.Kept.{PeerKept}
-use Rattle.dds_core.proofs.Names.{own_reader_is}
-use Rattle.dds_ends.specs.Readiness.{IsReadyWith, IsReadyFor, IsNamedAt, IsNamedFor, IsUnnamed, NamedBy, IsToldBy, TellsSo, seen_in, writer_guid}
+use Rattle.dds_core.proofs.Names.{own_end, own_reader_is}
+use Rattle.dds_ends.specs.Readiness.{IsReadyWith, IsReadyFor, IsNamedAt, IsUnnamed, NamedBy, IsToldBy, TellsSo, seen_in, writer_guid}
 use Rattle.dds_core.specs.Readiness.{AreReady, IsFirstNamed, NamesNone, moves_of}
 use Rattle.dds_ends.proofs.Idle.{idle_step, jumps_nowhere, stays_with}
 use Rattle.dds_base.specs.Places.{Match}
@@ -64,19 +63,20 @@ use Rattle.dds_ends.proofs.Beating.{adds_none, adds_on}
 use Rattle.dds_ends.specs.Storing.{Holds}
 use Rattle.dds_core.proofs.Ends.{with_reader}
 use Rattle.dds_ends.proofs.Lists.{element, left_at, left_more, drop_set, set_back}
-use Rattle.dds_core.proofs.KnownWriters.{has_none, stands_away}
+use Rattle.dds_core.proofs.KnownWriters.{row_known, unknown_to}
 use Rattle.dds_core.proofs.Named.{first_row, is_to}
 use Rattle.std.proofs.lemmas.Bool.Decides.{nat_tests}
-use Rattle.dds_machine.specs.Part.{Attachment, Away}
+use Rattle.dds_machine.specs.Matching.{is_known}
+use Rattle.dds_machine.specs.Part.{Attachment, own_proxies}
 use Rattle.dds_core.proofs.Takes.{Telling, known_of, reader_of, stood, stands_here}
 use Rattle.dds_core.proofs.Meeting.{Took, Met, NowKnows, NowHas, told_match, moves_at, due_to, change_met, gap_met, nothing_met, jump_met, heartbeat_met, beat_met, repeated_met}
 
 -- what one reader did, by the rules, and what was then due
-pub record ReaderTook (config : Config) (own : GuidPrefix) (at : Receiver) (s : Submessage) (reader : ℕ) (peer : Peer)
+pub record ReaderTook (roster : Roster) (own : GuidPrefix) (at : Receiver) (s : Submessage) (reader : ℕ) (peer : Peer)
     (made : List Move) (dues : List Due) (new : PeerKept) : Type 0 where
   pub state : State
-  pub takes : ReaderTakes config own peer.number at s reader (state_of peer) made dues state
-  pub stands : StandsFor new config (with_state peer state)
+  pub takes : ReaderTakes roster own peer.number at s reader (state_of peer) made dues state
+  pub stands : StandsFor new roster (with_state peer state)
 
 -- where nothing was done, nothing moved
 pub idle_moves : (writer : Endpoint) (reader : ℕ) (t : Tracked) → moves_of writer reader t.place (idle_step t) ≡ []
@@ -88,17 +88,13 @@ idle_moves writer reader t =
 
 -- the names that a submessage has
 abbrev named_as : (c : Telling) (own : GuidPrefix) (at : Receiver) (a b d e : EntityId) → a ≡ d → b ≡ e
-    → IsToReader c.config own at a b c.writer (record { peer = c.peer.number; number = suc c.i })
-    → IsToReader c.config own at d e c.writer (record { peer = c.peer.number; number = suc c.i })
+    → IsToReader c.roster own at a b c.writer (record { peer = c.peer.number; number = suc c.i })
+    → IsToReader c.roster own at d e c.writer (record { peer = c.peer.number; number = suc c.i })
 named_as c own at a b d e f g to = record {
   from =
       record {
-        peer = to.from.peer;
-        at_peer = to.from.at_peer;
         same_prefix = to.from.same_prefix;
-        end = to.from.end;
-        at_writer = to.from.at_writer;
-        same_entity = to.from.same_entity ∙ g;
+        at_writer = to.from.at_writer ∙ ap (λ (x : EntityId). Some x) g;
       };
   is_for = to.is_for;
   entity = to.entity;
@@ -106,6 +102,16 @@ named_as c own at a b d e f g to = record {
   named = subst (λ (x : EntityId). Names x to.entity) f to.named;
   matched = to.matched;
 }
+
+-- the reader is a reliable one, by the roster
+abbrev policy_of : Telling → Bool
+policy_of c = c.roster.is_reliable (own_end c.peer.number c.i)
+
+-- it knows the writer
+knows_it : (c : Telling) → is_known (own_proxies c.peer.part (suc c.i)) c.writer ≡ true
+knows_it c =
+    subst (λ (w : Endpoint). is_known (own_proxies c.peer.part (suc c.i)) w ≡ true) c.first.is
+    (row_known c.roster c.peer c.kept c.stands c.i c.k c.at c.row c.first.name c.first.at)
 
 no_answer : (c : Telling) (own : GuidPrefix) (at : Receiver) (entity writer_id : EntityId) (step : Step)
     → step.acknack ≡ None → due_to c own at entity writer_id step ≡ []
@@ -131,67 +137,68 @@ rules_so c Meets k' a reliable policy is same m =
 -- a DATA was told
 data_told : (c : Telling) (own : GuidPrefix) (at : Receiver) (d : DataBody) (k' : ReaderKept) (from : ℕ)
     (step : Step) (reader_id writer_id : EntityId) → NamedBy (Data d) reader_id writer_id
-    → (to : IsToReader c.config own at reader_id writer_id c.writer (record { peer = c.peer.number; number = suc c.i }))
-    → (a : AttachmentOf) (reliable : Bool) → how_at c.k.reader c.row ≡ a → is_reliable_reader to.to.end ≡ reliable
+    → (to : IsToReader c.roster own at reader_id writer_id c.writer (record { peer = c.peer.number; number = suc c.i }))
+    → (a : AttachmentOf) (reliable : Bool) → how_at c.k.reader c.row ≡ a → policy_of c ≡ reliable
     → step.acknack ≡ None
     → Met c k' (λ s. MeetsChange (stood_as a) reliable (state_of c.peer) c.writer (suc c.i) d.writer_sn
     (change_in d.content at.timestamp) (moves_at c from step) s)
-    → ReaderTook c.config own at (Data d) (suc c.i) c.peer (moves_at c from step)
+    → ReaderTook c.roster own at (Data d) (suc c.i) c.peer (moves_at c from step)
     (due_to c own at to.entity writer_id step) (with_reader c.kept c.i k')
 data_told c own at d k' from step reader_id writer_id by to a reliable is policy silent met =
     let to_it = named_as c own at reader_id writer_id d.reader_id d.writer_id by.0 by.1 to in
     let m =
     rules_so c
     (λ x b s. MeetsChange x b (state_of c.peer) c.writer (suc c.i) d.writer_sn (change_in d.content at.timestamp)
-    (moves_at c from step) s) k' a reliable (is_reliable_reader to.to.end) is policy met in
+    (moves_at c from step) s) k' a reliable (policy_of c) is policy met in
     record {
       state = m.state;
-      takes = inl (c.writer, to_it, (m.meets, no_answer c own at to.entity writer_id step silent));
+      takes = inl (c.writer, to_it, knows_it c, (m.meets, no_answer c own at to.entity writer_id step silent));
       stands = m.stands;
     }
 
 -- a GAP was told
 gap_told : (c : Telling) (own : GuidPrefix) (at : Receiver) (g : GapBody) (k' : ReaderKept) (from : ℕ)
     (step : Step) (reader_id writer_id : EntityId) → NamedBy (Gap g) reader_id writer_id
-    → (to : IsToReader c.config own at reader_id writer_id c.writer (record { peer = c.peer.number; number = suc c.i }))
-    → (a : AttachmentOf) (reliable : Bool) → how_at c.k.reader c.row ≡ a → is_reliable_reader to.to.end ≡ reliable
+    → (to : IsToReader c.roster own at reader_id writer_id c.writer (record { peer = c.peer.number; number = suc c.i }))
+    → (a : AttachmentOf) (reliable : Bool) → how_at c.k.reader c.row ≡ a → policy_of c ≡ reliable
     → step.acknack ≡ None
     → Met c k' (λ s. MeetsGap (stood_as a) reliable (state_of c.peer) c.writer (suc c.i) g (moves_at c from step) s)
-    → ReaderTook c.config own at (Gap g) (suc c.i) c.peer (moves_at c from step)
+    → ReaderTook c.roster own at (Gap g) (suc c.i) c.peer (moves_at c from step)
     (due_to c own at to.entity writer_id step) (with_reader c.kept c.i k')
 gap_told c own at g k' from step reader_id writer_id by to a reliable is policy silent met =
     let to_it = named_as c own at reader_id writer_id g.reader_id g.writer_id by.0 by.1 to in
     let m =
     rules_so c (λ x b s. MeetsGap x b (state_of c.peer) c.writer (suc c.i) g (moves_at c from step) s) k' a reliable
-    (is_reliable_reader to.to.end) is policy met in
+    (policy_of c) is policy met in
     record {
       state = m.state;
-      takes = inl (c.writer, to_it, (m.meets, no_answer c own at to.entity writer_id step silent));
+      takes = inl (c.writer, to_it, knows_it c, (m.meets, no_answer c own at to.entity writer_id step silent));
       stands = m.stands;
     }
 
 -- a HEARTBEAT was told
 heartbeat_told : (c : Telling) (own : GuidPrefix) (at : Receiver) (h : HeartbeatBody) (k' : ReaderKept) (from : ℕ)
     (step : Step) (reader_id writer_id : EntityId) → NamedBy (Heartbeat h) reader_id writer_id
-    → (to : IsToReader c.config own at reader_id writer_id c.writer (record { peer = c.peer.number; number = suc c.i }))
-    → (a : AttachmentOf) (reliable : Bool) → how_at c.k.reader c.row ≡ a → is_reliable_reader to.to.end ≡ reliable
+    → (to : IsToReader c.roster own at reader_id writer_id c.writer (record { peer = c.peer.number; number = suc c.i }))
+    → (a : AttachmentOf) (reliable : Bool) → how_at c.k.reader c.row ≡ a → policy_of c ≡ reliable
     → Met c k' (λ s. MeetsHeartbeat (stood_as a) reliable own at (state_of c.peer) c.writer (suc c.i) to.entity h
     (moves_at c from step) (due_to c own at to.entity h.writer_id step) s)
-    → ReaderTook c.config own at (Heartbeat h) (suc c.i) c.peer (moves_at c from step)
+    → ReaderTook c.roster own at (Heartbeat h) (suc c.i) c.peer (moves_at c from step)
     (due_to c own at to.entity writer_id step) (with_reader c.kept c.i k')
 heartbeat_told c own at h k' from step reader_id writer_id by to a reliable is policy met =
     let to_it = named_as c own at reader_id writer_id h.reader_id h.writer_id by.0 by.1 to in
     let m =
     rules_so c
     (λ x b s. MeetsHeartbeat x b own at (state_of c.peer) c.writer (suc c.i) to.entity h (moves_at c from step)
-    (due_to c own at to.entity h.writer_id step) s) k' a reliable (is_reliable_reader to.to.end) is policy met in
+    (due_to c own at to.entity h.writer_id step) s) k' a reliable (policy_of c) is policy met in
     record {
       state = m.state;
       takes = inl (
         c.writer,
         to_it,
+        knows_it c,
         subst (λ (w : EntityId).
-            MeetsHeartbeat (stands_to (state_of c.peer) c.writer (suc c.i)) (is_reliable_reader to.to.end) own at
+            MeetsHeartbeat (stands_to (state_of c.peer) c.writer (suc c.i)) (policy_of c) own at
             (state_of c.peer) c.writer (suc c.i) to.entity h (moves_at c from step)
             (due_to c own at to.entity w step) m.state) (sym by.1) m.meets,
       );
@@ -220,15 +227,15 @@ change_silent standing.Waiting match t h number change step Knows Has m =
     begins_silent (nat_le t.place number && comes match number h number change) match t h number change step Knows Has m
 change_silent standing.Away match t h number change step Knows Has m = m.0.acknack
 
--- what is ready for a reader is told, by the reader's reliability, which is that of the configuration
+-- what is ready for a reader is told, by the reader's reliability, which is that of the roster
 told_so : (c : Telling) (own : GuidPrefix) (at : Receiver) (s : Submessage) (said : Told) (k' : ReaderKept) (from : ℕ)
     (step : Step) (reader_id writer_id : EntityId) → NamedBy s reader_id writer_id
     → IsToldBy (reliable_in c.k.store) at s said
-    → (to : IsToReader c.config own at reader_id writer_id c.writer (record { peer = c.peer.number; number = suc c.i }))
-    → is_reliable_reader to.to.end ≡ reliable_in c.k.store → Took c k' from step
+    → (to : IsToReader c.roster own at reader_id writer_id c.writer (record { peer = c.peer.number; number = suc c.i }))
+    → policy_of c ≡ reliable_in c.k.store → Took c k' from step
     → (a : AttachmentOf) → how_at c.k.reader c.row ≡ a
     → TellsSo a (told_match c) said (known_of c) (reader_of c).happened step (λ t. NowKnows c k' t) (λ h. NowHas k' h)
-    → ReaderTook c.config own at s (suc c.i) c.peer (moves_at c from step)
+    → ReaderTook c.roster own at s (suc c.i) c.peer (moves_at c from step)
     (due_to c own at to.entity writer_id step) (with_reader c.kept c.i k')
 told_so c own at (Data d) (told.Change number change) k' from step reader_id writer_id by is to policy took a stands m =
     let n : MeetsNews a (told_match c) (with_data d.writer_sn (change_in d.content at.timestamp)) (known_of c)
@@ -298,10 +305,10 @@ abbrev pub answer_due : GuidPrefix → ReaderKept → WriterName → Step → Li
 answer_due own k name step = acknacks_due own name.guid.prefix name.writer.peer k.entity name.guid.entity step.acknack
 
 -- a reader that a submessage names
-abbrev telling : (config : Config) (peer : Peer) (kept : PeerKept) (at : Receiver) (s : Submessage) (i : ℕ) (k : ReaderKept)
-    (row : ℕ) → StandsFor kept config peer → slice_get kept.readers i ≡ Some k → IsNamedAt kept.prefix at s k row → Telling
-telling config peer kept at s i k row stands at_k is = record {
-  config = config;
+abbrev telling : (roster : Roster) (peer : Peer) (kept : PeerKept) (at : Receiver) (s : Submessage) (i : ℕ)
+    (k : ReaderKept) (row : ℕ) → StandsFor kept roster peer → slice_get kept.readers i ≡ Some k → IsNamedAt kept.prefix at s k row → Telling
+telling roster peer kept at s i k row stands at_k is = record {
+  roster = roster;
   peer = peer;
   kept = kept;
   stands = stands;
@@ -310,7 +317,7 @@ telling config peer kept at s i k row stands at_k is = record {
   at = at_k;
   writer = is.named.first.name.writer;
   row = row;
-  first = first_row config peer kept stands i k at_k _ row is.named.first;
+  first = first_row roster peer kept stands i k at_k _ row is.named.first;
 }
 
 -- one thing alone is known of a writer
@@ -320,19 +327,19 @@ tracks_one reader row t u a b =
     ∙ (ap (λ (w : KnownWriter). tracked w.proxy) (same_Some a.0 b.0 (sym a.1 ∙ b.1)) ∙ sym (same_is _ _ b.2))
 
 -- the reader of this index took up what was ready for it
-took : (config : Config) (peer : Peer) (kept new : PeerKept) (at : Receiver) (s : Submessage) (i : ℕ) (k : ReaderKept)
+took : (roster : Roster) (peer : Peer) (kept new : PeerKept) (at : Receiver) (s : Submessage) (i : ℕ) (k : ReaderKept)
     (ready : Ready) (moves : List Move) (sent : Announced) (after : List Move) (gone : Announced)
-    → StandsFor kept config peer
+    → StandsFor kept roster peer
     → slice_get kept.readers i ≡ Some k → IsReadyWith kept.prefix at s k ready
     → (t : TookAt kept i ready k moves sent new after gone)
-    → ReaderTook config kept.prefix at s (suc i) peer (moves_of t.name.writer (i + 1) t.from t.step)
+    → ReaderTook roster kept.prefix at s (suc i) peer (moves_of t.name.writer (i + 1) t.from t.step)
     (answer_due kept.prefix k t.name t.step) new
-took config peer kept new at s i k ready moves sent after gone stands at_k is t =
+took roster peer kept new at s i k ready moves sent after gone stands at_k is t =
     let first : IsFirstRow k.writers own_name.writer ready.row =
-    first_row config peer kept stands i k at_k _ ready.row is.named.first in
+    first_row roster peer kept stands i k at_k _ ready.row is.named.first in
     let c : Telling =
     record {
-      config = config;
+      roster = roster;
       peer = peer;
       kept = kept;
       stands = stands;
@@ -343,13 +350,13 @@ took config peer kept new at s i k ready moves sent after gone stands at_k is t 
       row = ready.row;
       first = first;
     } in
-    let to : IsToReader config kept.prefix at is.reader_id is.writer_id own_name.writer
-    (record { peer = peer.number; number = suc i }) = is_to config peer kept stands i k at_k at is.reader_id
+    let to : IsToReader roster kept.prefix at is.reader_id is.writer_id own_name.writer
+    (record { peer = peer.number; number = suc i }) = is_to roster peer kept stands i k at_k at is.reader_id
     is.writer_id ready.row is.named in
     let knows : Tracks k.reader ready.row (known_of c) = (stood c).knows own_name.writer ready.row first in
     let r =
     told_so c kept.prefix at s ready.told t.reader t.from t.step is.reader_id is.writer_id is.by is.told to
-    (own_reader_is config peer.number kept stands.is_peer i k at_k).reliable (record {
+    (own_reader_is roster peer.number kept stands.is_peer i k at_k).reliable (record {
       same = t.same;
       others = t.told.others;
       how = t.told.how;
@@ -357,15 +364,15 @@ took config peer kept new at s i k ready moves sent after gone stands at_k is t 
       from_is = t.place (known_of c) knows;
     }) (how_at k.reader ready.row) refl (t.told.told (known_of c) (reader_of c).happened knows (stood c).holds) in
     let guid : own_name.guid ≡ writer_guid at is.writer_id = is.named.first.named in
-    let there : ReaderTook config kept.prefix at s (suc i) peer (moves_of own_name.writer (i + 1) t.from t.step)
+    let there : ReaderTook roster kept.prefix at s (suc i) peer (moves_of own_name.writer (i + 1) t.from t.step)
     (answer_due kept.prefix k own_name t.step) (with_reader kept i t.reader) =
-    subst (λ (g : Guid). ReaderTook config kept.prefix at s (suc i) peer
+    subst (λ (g : Guid). ReaderTook roster kept.prefix at s (suc i) peer
     (moves_of own_name.writer (i + 1) t.from t.step)
     (acknacks_due kept.prefix g.prefix own_name.writer.peer k.entity g.entity t.step.acknack)
     (with_reader kept i t.reader)) (sym guid) r in
-    subst (λ (x : PeerKept). ReaderTook config kept.prefix at s (suc i) peer
+    subst (λ (x : PeerKept). ReaderTook roster kept.prefix at s (suc i) peer
     (moves_of t.name.writer (i + 1) t.from t.step) (answer_due kept.prefix k t.name t.step) x) (sym t.new_is)
-    (subst (λ (n : WriterName). ReaderTook config kept.prefix at s (suc i) peer
+    (subst (λ (n : WriterName). ReaderTook roster kept.prefix at s (suc i) peer
     (moves_of n.writer (i + 1) t.from t.step) (answer_due kept.prefix k n t.step) (with_reader kept i t.reader))
     same_name there)
   where
@@ -375,48 +382,26 @@ took config peer kept new at s i k ready moves sent after gone stands at_k is t 
     same_name : own_name ≡ t.name
     same_name = same_Some own_name t.name (sym is.named.first.at ∙ t.at_name)
 
--- a reader that is not named does what one does that does not stand to the writer, or there is no such writer
-unmatched : (config : Config) (peer : Peer) (kept : PeerKept) (at : Receiver) (reader_id writer_id : EntityId) (i : ℕ)
-    (k : ReaderKept) → StandsFor kept config peer → slice_get kept.readers i ≡ Some k
-    → ((n : ℕ) → IsNamedFor kept.prefix k at reader_id writer_id n → ⊥)
-    → (Meets : Attachment → Endpoint → EntityId → Bool → Type 0) (Idle : Type 0)
-    → ((w : Endpoint) (entity : EntityId) (reliable : Bool) → Meets Away w entity reliable) → Idle
-    → WhereMatched config kept.prefix at reader_id writer_id (record { peer = peer.number; number = suc i })
-    (λ w entity reliable. Meets (stands_to (state_of peer) w (suc i)) w entity reliable) Idle
-unmatched config peer kept at reader_id writer_id i k stands at_k none Meets Idle away idle =
-    ⊎_elim
-    (λ f.
-    let apart =
-    stands_away config peer kept stands i k at_k f.0
-    (has_none config peer kept stands i k at_k at reader_id writer_id f.0 f.1 none) in
-    let reliable : Bool = is_reliable_reader f.1.to.end in
-    inl (
-      f.0,
-      f.1,
-      subst (λ (a : Attachment). Meets a f.0 f.1.entity reliable) (sym apart) (away f.0 f.1.entity reliable),
-    )) (λ n. inr (n, idle))
-    (finds_writer config kept.prefix at reader_id writer_id (record { peer = peer.number; number = suc i }))
-
--- it is not named, and so it has nothing to do
-unnamed : (config : Config) (peer : Peer) (kept : PeerKept) (at : Receiver) (s : Submessage) (i : ℕ) (k : ReaderKept)
-    → StandsFor kept config peer → slice_get kept.readers i ≡ Some k → IsUnnamed kept.prefix at s k
-    → ReaderTakes config kept.prefix peer.number at s (suc i) (state_of peer) [] [] (state_of peer)
-unnamed config peer kept at (Data d) i k stands at_k none =
-    unmatched config peer kept at d.reader_id d.writer_id i k stands at_k (none d.reader_id d.writer_id (refl, refl))
-    (λ a w entity reliable. MeetsChange a reliable (state_of peer) w (suc i) d.writer_sn
-    (change_in d.content at.timestamp) [] (state_of peer) × (◌≡◌ {A = List Due} [] [])) (Idles (state_of peer) [] [] (state_of peer))
-    (λ w entity reliable. ((refl, refl), refl)) (refl, refl, refl)
-unnamed config peer kept at (Gap g) i k stands at_k none =
-    unmatched config peer kept at g.reader_id g.writer_id i k stands at_k (none g.reader_id g.writer_id (refl, refl))
-    (λ a w entity reliable. MeetsGap a reliable (state_of peer) w (suc i) g [] (state_of peer)
-    × (◌≡◌ {A = List Due} [] [])) (Idles (state_of peer) [] [] (state_of peer))
-    (λ w entity reliable. ((refl, refl), refl)) (refl, refl, refl)
-unnamed config peer kept at (Heartbeat h) i k stands at_k none =
-    unmatched config peer kept at h.reader_id h.writer_id i k stands at_k (none h.reader_id h.writer_id (refl, refl))
-    (λ a w entity reliable. MeetsHeartbeat a reliable kept.prefix at (state_of peer) w (suc i) entity h [] []
-    (state_of peer)) (Idles (state_of peer) [] [] (state_of peer))
-    (λ w entity reliable. (refl, refl, refl)) (refl, refl, refl)
-unnamed config peer kept at s i k stands at_k none = (refl, refl, refl)
+-- it is not named, and so it has nothing to do: it knows no writer that the submessage may be from
+unnamed : (roster : Roster) (peer : Peer) (kept : PeerKept) (at : Receiver) (s : Submessage) (i : ℕ) (k : ReaderKept)
+    → StandsFor kept roster peer → slice_get kept.readers i ≡ Some k → IsUnnamed kept.prefix at s k
+    → ReaderTakes roster kept.prefix peer.number at s (suc i) (state_of peer) [] [] (state_of peer)
+unnamed roster peer kept at (Data d) i k stands at_k none = inr (
+  λ w to. unknown_to roster peer kept stands i k at_k at d.reader_id d.writer_id w to
+      (none d.reader_id d.writer_id (refl, refl)),
+  (refl, refl, refl),
+)
+unnamed roster peer kept at (Gap g) i k stands at_k none = inr (
+  λ w to. unknown_to roster peer kept stands i k at_k at g.reader_id g.writer_id w to
+      (none g.reader_id g.writer_id (refl, refl)),
+  (refl, refl, refl),
+)
+unnamed roster peer kept at (Heartbeat h) i k stands at_k none = inr (
+  λ w to. unknown_to roster peer kept stands i k at_k at h.reader_id h.writer_id w to
+      (none h.reader_id h.writer_id (refl, refl)),
+  (refl, refl, refl),
+)
+unnamed roster peer kept at s i k stands at_k none = (refl, refl, refl)
 
 -- what a reader is told that does nothing at it
 said_of : Bool → Receiver → Submessage → Told
@@ -474,17 +459,17 @@ says_idle a false at (Heartbeat b) reader_id writer_id match t h Knows Has by is
 says_idle a reliable at s reader_id writer_id match t h Knows Has by is knows has = absurd by
 
 -- nothing is ready for it, and so it does nothing
-idles : (config : Config) (peer : Peer) (kept : PeerKept) (at : Receiver) (s : Submessage) (i : ℕ) (k : ReaderKept)
-    → StandsFor kept config peer → slice_get kept.readers i ≡ Some k → IsReadyFor kept.prefix at s k None
-    → ReaderTook config kept.prefix at s (suc i) peer [] [] kept
-idles config peer kept at s i k stands at_k (inl none) = record {
+idles : (roster : Roster) (peer : Peer) (kept : PeerKept) (at : Receiver) (s : Submessage) (i : ℕ) (k : ReaderKept)
+    → StandsFor kept roster peer → slice_get kept.readers i ≡ Some k → IsReadyFor kept.prefix at s k None
+    → ReaderTook roster kept.prefix at s (suc i) peer [] [] kept
+idles roster peer kept at s i k stands at_k (inl none) = record {
   state = state_of peer;
-  takes = unnamed config peer kept at s i k stands at_k none;
+  takes = unnamed roster peer kept at s i k stands at_k none;
   stands = stands;
 }
-idles config peer kept at s i k stands at_k (inr idle) =
+idles roster peer kept at s i k stands at_k (inr idle) =
     let is : IsNamedAt kept.prefix at s k idle.row = idle.named in
-    let c : Telling = telling config peer kept at s i k idle.row stands at_k is in
+    let c : Telling = telling roster peer kept at s i k idle.row stands at_k is in
     let knows : Tracks k.reader idle.row (known_of c) = (stood c).knows c.writer idle.row c.first in
     let may : may_do (reliable_in k.store) (known_of c) s ≡ false =
     subst (λ (t : Tracked). may_do (reliable_in k.store) t s ≡ false)
@@ -496,17 +481,17 @@ idles config peer kept at s i k stands at_k (inr idle) =
     let r =
     told_so c kept.prefix at s (said_of (reliable_in k.store) at s) k (known_of c).place (idle_step (known_of c))
     is.reader_id is.writer_id is.by said.0
-    (is_to config peer kept stands i k at_k at is.reader_id is.writer_id idle.row is.named)
-    (own_reader_is config peer.number kept stands.is_peer i k at_k).reliable (record {
+    (is_to roster peer kept stands i k at_k at is.reader_id is.writer_id idle.row is.named)
+    (own_reader_is roster peer.number kept stands.is_peer i k at_k).reliable (record {
       same = record { entity = refl; writers = refl; qos = refl; seen = refl; matches = refl; here = refl };
       others = λ j t apart h. h;
       how = refl;
       others_how = λ j apart. refl;
       from_is = refl;
     }) (how_at k.reader idle.row) refl said.1 in
-    subst (λ (x : PeerKept). ReaderTook config kept.prefix at s (suc i) peer [] [] x)
+    subst (λ (x : PeerKept). ReaderTook roster kept.prefix at s (suc i) peer [] [] x)
     (ap (λ (rs : List ReaderKept). record kept { readers = rs }) (set_back kept.readers i k k at_k refl))
-    (subst (λ (ms : List Move). ReaderTook config kept.prefix at s (suc i) peer ms [] (with_reader kept i k))
+    (subst (λ (ms : List Move). ReaderTook roster kept.prefix at s (suc i) peer ms [] (with_reader kept i k))
     (idle_moves c.writer (i + 1) (known_of c)) r)
 
 -- ---- one reader after the other
@@ -568,9 +553,9 @@ number_at first (suc count) (suc k) x at =
 -- what may do something at a reader may need memory
 needs : (c : Telling) (own : GuidPrefix) (at : Receiver) (s : Submessage) (reader_id writer_id : EntityId)
     → NamedBy s reader_id writer_id
-    → (to : IsToReader c.config own at reader_id writer_id c.writer (record { peer = c.peer.number; number = suc c.i }))
-    → may_do (is_reliable_reader to.to.end) (known_of c) s ≡ true
-    → MayNeedMemory c.config own c.peer.number at s (state_of c.peer)
+    → (to : IsToReader c.roster own at reader_id writer_id c.writer (record { peer = c.peer.number; number = suc c.i }))
+    → may_do (policy_of c) (known_of c) s ≡ true
+    → MayNeedMemory c.roster own c.peer.number at s (state_of c.peer)
 needs c own at (Data d) reader_id writer_id by to may =
     (c.writer, suc c.i, named_as c own at reader_id writer_id d.reader_id d.writer_id by.0 by.1 to, may)
 needs c own at (Gap g) reader_id writer_id by to may =
@@ -582,18 +567,18 @@ needs c own at s reader_id writer_id by to may = absurd by
 -- so may one that names a reader, and may do something there
 pub named_needs : (old : PeerKept) (at : Receiver) (s : Submessage) (first : FirstNamed)
     → IsFirstNamed old.prefix at s old.readers first → NeedsMemory old at s
-named_needs old at s first is config peer stands =
+named_needs old at s first is roster peer stands =
     let k : ReaderKept = is.reader in
-    let c : Telling = telling config peer old at s first.index k first.row stands is.there is.named in
+    let c : Telling = telling roster peer old at s first.index k first.row stands is.there is.named in
     let knows : Tracks k.reader first.row (known_of c) = (stood c).knows c.writer first.row c.first in
     let may : may_do (reliable_in k.store) (known_of c) s ≡ true =
     subst (λ (t : Tracked). may_do (reliable_in k.store) t s ≡ true)
     (tracks_one k.reader first.row is.does.known (known_of c) is.does.tracks knows) is.does.does in
     needs c old.prefix at s is.named.reader_id is.named.writer_id is.named.by
-    (is_to config peer old stands first.index k is.there at is.named.reader_id is.named.writer_id first.row
+    (is_to roster peer old stands first.index k is.there at is.named.reader_id is.named.writer_id first.row
     is.named.named)
     (ap (λ (b : Bool). may_do b (known_of c) s)
-    (own_reader_is config peer.number old stands.is_peer first.index k is.there).reliable ∙ may)
+    (own_reader_is roster peer.number old stands.is_peer first.index k is.there).reliable ∙ may)
 
 -- so does what was found among the readers of a peer
 pub needs_if : (found : Option FirstNamed) (now : PeerKept) (at : Receiver) (s : Submessage)
@@ -608,7 +593,7 @@ takes_none old ready effects = record {
   made = [];
   after_is = sym (append-nil effects.moves.items);
   takes =
-      λ at s are config peer stands. record {
+      λ at s are roster peer stands. record {
         state = state_of peer;
         dues = [];
         turn = (refl, refl, refl);
@@ -619,21 +604,21 @@ takes_none old ready effects = record {
   prefix = refl;
 }
 
-more_took : (config : Config) (own : GuidPrefix) (at : Receiver) (s : Submessage) (i : ℕ) (peer : Peer)
+more_took : (roster : Roster) (own : GuidPrefix) (at : Receiver) (s : Submessage) (i : ℕ) (peer : Peer)
     (made one : List Move) (due : List Due) (sent mid gone : Announced) (now new : PeerKept)
-    (before : ReadersTook config own at s i peer made sent now mid) (after : State)
-    → ReaderTakes config own peer.number at s (suc i) before.state one due after
-    → StandsFor new config (with_state peer after) → AddsTo due mid gone
-    → ReadersTook config own at s (suc i) peer (made ++ one) sent new gone
-more_took config own at s i peer made one due sent mid gone now new before after takes stands adds = record {
+    (before : ReadersTook roster own at s i peer made sent now mid) (after : State)
+    → ReaderTakes roster own peer.number at s (suc i) before.state one due after
+    → StandsFor new roster (with_state peer after) → AddsTo due mid gone
+    → ReadersTook roster own at s (suc i) peer (made ++ one) sent new gone
+more_took roster own at s i peer made one due sent mid gone now new before after takes stands adds = record {
   state = after;
   dues = before.dues ++ due;
   turn =
-      subst (λ ns. InTurn (ReaderTakes config own peer.number at s) ns (state_of peer) (made ++ one)
+      subst (λ ns. InTurn (ReaderTakes roster own peer.number at s) ns (state_of peer) (made ++ one)
       (before.dues ++ due) after) (sym (numbers_more 1 i))
-      (turn_more (ReaderTakes config own peer.number at s) (numbers_from 1 i) (1 + i)
+      (turn_more (ReaderTakes roster own peer.number at s) (numbers_from 1 i) (1 + i)
       (state_of peer) before.state after made one before.dues due before.turn
-      (subst (λ n. ReaderTakes config own peer.number at s n before.state one due after) (one_on i) takes));
+      (subst (λ n. ReaderTakes roster own peer.number at s n before.state one due after) (one_on i) takes));
   stands = stands;
   adds =
       adds_on before.dues due sent.packets.items mid.packets.items gone.packets.items sent.unsent mid.unsent gone.unsent
@@ -649,24 +634,24 @@ pub nobody_told : (old : PeerKept) (at : Receiver) (s : Submessage) (effects : E
 nobody_told old at s effects none = record {
   made = [];
   after_is = sym (append-nil effects.moves.items);
-  takes = λ config peer stands. so_far config peer stands (length old.readers) (omega arith);
+  takes = λ roster peer stands. so_far roster peer stands (length old.readers) (omega arith);
 }
   where
-    so_far : (config : Config) (peer : Peer) → StandsFor old config peer → (count : ℕ) → count ≤ length old.readers
-        → ReadersTook config old.prefix at s count peer [] effects.sent old effects.sent
-    so_far config peer stands zero within = record {
+    so_far : (roster : Roster) (peer : Peer) → StandsFor old roster peer → (count : ℕ) → count ≤ length old.readers
+        → ReadersTook roster old.prefix at s count peer [] effects.sent old effects.sent
+    so_far roster peer stands zero within = record {
       state = state_of peer;
       dues = [];
       turn = (refl, refl, refl);
       stands = stands;
       adds = adds_none effects.sent.packets.items effects.sent.unsent;
     }
-    so_far config peer stands (suc i) within =
-        let before = so_far config peer stands i (omega (arith, within)) in
+    so_far roster peer stands (suc i) within =
+        let before = so_far roster peer stands i (omega (arith, within)) in
         let k = element old.readers i (omega (arith, within)) in
         let r =
-        idles config (with_state peer before.state) old at s i k.0 before.stands k.1 (none i k.0 k.1) in
-        more_took config old.prefix at s i peer [] [] [] effects.sent effects.sent effects.sent old old before r.state
+        idles roster (with_state peer before.state) old at s i k.0 before.stands k.1 (none i k.0 k.1) in
+        more_took roster old.prefix at s i peer [] [] [] effects.sent effects.sent effects.sent old old before r.state
         r.takes r.stands (adds_none effects.sent.packets.items effects.sent.unsent)
 
 next_index : (n : ℕ) → suc n ≡ n + 1
@@ -680,20 +665,20 @@ takes_skip old now ready i effects after h within none =
     subst (λ n. TakesSome old ready n effects now after) (next_index i) (record {
       made = h.made;
       after_is = h.after_is;
-      takes = λ at s are config peer stands.
+      takes = λ at s are roster peer stands.
           let sent = effects.sent in
           let gone = after.sent in
-          let t : ReadersTook config old.prefix at s i peer h.made sent now gone =
-          h.takes at s are config peer stands in
+          let t : ReadersTook roster old.prefix at s i peer h.made sent now gone =
+          h.takes at s are roster peer stands in
           let k = element old.readers i within in
           let at_now : slice_get now.readers i ≡ Some k.0 = left_at now.readers old.readers i k.0 h.left k.1 in
           let r =
-          idles config (with_state peer t.state) now at s i k.0 t.stands at_now
+          idles roster (with_state peer t.state) now at s i k.0 t.stands at_now
           (subst (λ p. IsReadyFor p at s k.0 None) (sym h.prefix) (are.each i k.0 None k.1 none)) in
-          let same : ReaderTakes config old.prefix peer.number at s (suc i) t.state [] [] r.state =
-          subst (λ p. ReaderTakes config p peer.number at s (suc i) t.state [] [] r.state) h.prefix r.takes in
-          subst (λ ms. ReadersTook config old.prefix at s (suc i) peer ms sent now gone) (append-nil h.made)
-          (more_took config old.prefix at s i peer h.made [] [] sent gone gone now now t r.state same r.stands
+          let same : ReaderTakes roster old.prefix peer.number at s (suc i) t.state [] [] r.state =
+          subst (λ p. ReaderTakes roster p peer.number at s (suc i) t.state [] [] r.state) h.prefix r.takes in
+          subst (λ ms. ReadersTook roster old.prefix at s (suc i) peer ms sent now gone) (append-nil h.made)
+          (more_took roster old.prefix at s i peer h.made [] [] sent gone gone now now t r.state same r.stands
           (adds_none gone.packets.items gone.unsent));
       left = left_more now.readers old.readers i h.left;
       prefix = h.prefix;
@@ -712,20 +697,20 @@ takes_more old now new ready i one effects mid after h within is took_at =
     subst (λ n. TakesSome old ready n effects new after) (next_index i) (record {
       made = h.made ++ made;
       after_is = t.after_is ∙ (ap (λ ms. ms ++ made) h.after_is ∙ append_assoc effects.moves.items h.made made);
-      takes = λ at s are config peer stands.
+      takes = λ at s are roster peer stands.
           let sent = effects.sent in
           let went = mid.sent in
           let gone = after.sent in
-          let before : ReadersTook config old.prefix at s i peer h.made sent now went =
-          h.takes at s are config peer stands in
+          let before : ReadersTook roster old.prefix at s i peer h.made sent now went =
+          h.takes at s are roster peer stands in
           let with_it : IsReadyWith now.prefix at s k.0 one =
           subst (λ p. IsReadyWith p at s k.0 one) (sym h.prefix) (are.each i k.0 (Some one) k.1 is) in
           let r =
-          took config (with_state peer before.state) now new at s i k.0 one mid.moves.items went after.moves.items gone
+          took roster (with_state peer before.state) now new at s i k.0 one mid.moves.items went after.moves.items gone
           before.stands at_now with_it t in
           let dues = answer_due now.prefix k.0 t.name t.step in
-          more_took config old.prefix at s i peer h.made made dues sent went gone now new before r.state
-          (subst (λ p. ReaderTakes config p peer.number at s (suc i) before.state made dues r.state) h.prefix r.takes)
+          more_took roster old.prefix at s i peer h.made made dues sent went gone now new before r.state
+          (subst (λ p. ReaderTakes roster p peer.number at s (suc i) before.state made dues r.state) h.prefix r.takes)
           r.stands t.answer;
       left =
           ap (λ (c : PeerKept). drop (suc i) c.readers) t.new_is
@@ -742,12 +727,12 @@ pub tells_readers : (old now new : PeerKept) (at : Receiver) (s : Submessage) (r
 tells_readers old now new at s ready effects moves after same well prefix are all count = record {
   made = all.made;
   after_is = all.after_is ∙ ap (λ (ms : List Move). ms ++ all.made) same;
-  takes = λ config peer stands.
+  takes = λ roster peer stands.
       let sent = effects.sent in
       let gone = after.sent in
-      let r : ReadersTook config now.prefix at s (length now.readers) peer all.made sent new gone =
-      all.takes at s (subst (λ p. AreReady p at s now.readers ready) (sym prefix) are) config peer
-      (well config peer stands) in
-      subst (λ n. ReadersTook config old.prefix at s n peer all.made sent new gone) count
-      (subst (λ p. ReadersTook config p at s (length now.readers) peer all.made sent new gone) prefix r);
+      let r : ReadersTook roster now.prefix at s (length now.readers) peer all.made sent new gone =
+      all.takes at s (subst (λ p. AreReady p at s now.readers ready) (sym prefix) are) roster peer
+      (well roster peer stands) in
+      subst (λ n. ReadersTook roster old.prefix at s n peer all.made sent new gone) count
+      (subst (λ p. ReadersTook roster p at s (length now.readers) peer all.made sent new gone) prefix r);
 }

@@ -1,7 +1,7 @@
 -- What a peer answers twice: replies without lists, and outputs of whose packets some are lost.
 use Rattle.std.proofs.Common.{◌≡◌, ℕ, ◌+◌, true, false, List, [], ◌∷◌, length, subst, sym, ◌∙◌, refl, inl, inr, ⊎_elim, arith}
 use Rattle.dds_base.specs.declared.change.Change.{Change}
-use Rattle.dds_base.specs.declared.config.Config.{Config}
+use Rattle.dds_protocol.specs.Roster.{Roster}
 use Rattle.dds_base.specs.Written.{Registered, Changed, Asserted, LookedAt, StrengthSet, Ticked}
 use Rattle.dds_base.specs.declared.endpoint.Endpoint.{Endpoint}
 use Rattle.dds_machine.specs.declared.reply.Reply.{Reply}
@@ -75,67 +75,67 @@ nothing_sent output less l none =
     let third = left.1 in
     record { packets = left.0; unsent = omega (arith, first, second, third) }
 
-change_sent : (config : Config) (writer : Endpoint) (readers : List Endpoint) (number : ℕ) (change : Change)
-    (output less : Output) → LosesPackets output less → SendsChange config writer readers number change output
-    → SendsChange config writer readers number change less
-change_sent config writer readers number change output less l one =
+change_sent : (roster : Roster) (writer : Endpoint) (readers : List Endpoint) (number : ℕ) (change : Change)
+    (output less : Output) → LosesPackets output less → SendsChange roster writer readers number change output
+    → SendsChange roster writer readers number change less
+change_sent roster writer readers number change output less l one =
     let count = left_count output.packets less.packets l.leaves.lost l.leaves.are_left in
     let unsent = l.unsent in
     let all = one.counted in
     record {
       counted = omega (arith, count, unsent, all);
-      are_sent = dues_sent (changes_due config writer readers number change) output less l one.are_sent;
+      are_sent = dues_sent (changes_due roster writer readers number change) output less l one.are_sent;
       to_peers = λ packet m. one.to_peers packet (l.leaves.of_packets packet m);
       says = λ packet reader m same matched. one.says packet reader (l.leaves.of_packets packet m) same matched;
       different = l.leaves.different one.different;
     }
 
-effect_sent : (config : Config) (peer : Peer) (effect : Effect) (output less : Output) → LosesPackets output less
-    → SendsFor config peer effect output → SendsFor config peer effect less
-effect_sent config peer (writes w (Changed change)) output less l one =
-    change_sent config (record { peer = peer.number; number = w }) (own_writer peer.part w).matched
+effect_sent : (roster : Roster) (peer : Peer) (effect : Effect) (output less : Output) → LosesPackets output less
+    → SendsFor roster peer effect output → SendsFor roster peer effect less
+effect_sent roster peer (writes w (Changed change)) output less l one =
+    change_sent roster (record { peer = peer.number; number = w }) (own_writer peer.part w).matched
     (length (writer_changes (own_writer peer.part w)) + 1) change output less l one
-effect_sent config peer (writes w (Registered key)) output less l none = nothing_sent output less l none
-effect_sent config peer (writes w (Asserted moment)) output less l are =
+effect_sent roster peer (writes w (Registered key)) output less l none = nothing_sent output less l none
+effect_sent roster peer (writes w (Asserted moment)) output less l are =
     dues_sent
-    (assertions_due config (peer.known.answered w) (record { peer = peer.number; number = w }) (own_writer peer.part w))
+    (assertions_due roster (peer.known.answered w) (record { peer = peer.number; number = w }) (own_writer peer.part w))
     output less l are
-effect_sent config peer (writes w LookedAt) output less l none = nothing_sent output less l none
-effect_sent config peer (writes w (StrengthSet strength)) output less l none = nothing_sent output less l none
-effect_sent config peer (writes w (Ticked now behind)) output less l none = nothing_sent output less l none
-effect_sent config peer (tells telling) output less l none = nothing_sent output less l none
-effect_sent config peer (looks_at_matches w) output less l none = nothing_sent output less l none
-effect_sent config peer nothing output less l none = nothing_sent output less l none
+effect_sent roster peer (writes w LookedAt) output less l none = nothing_sent output less l none
+effect_sent roster peer (writes w (StrengthSet strength)) output less l none = nothing_sent output less l none
+effect_sent roster peer (writes w (Ticked now behind)) output less l none = nothing_sent output less l none
+effect_sent roster peer (tells telling) output less l none = nothing_sent output less l none
+effect_sent roster peer (looks_at_matches w) output less l none = nothing_sent output less l none
+effect_sent roster peer nothing output less l none = nothing_sent output less l none
 
 pub loses_messages : (output less : Output) → LosesPackets output less → AreMessages output.packets
     → AreMessages less.packets
 loses_messages output less l messages = λ packet m. messages packet (l.leaves.of_packets packet m)
 
-loses_step : (config : Config) (tests : Tests) (old : Peer) (e : Event) (output less : Output) (new : Peer)
-    → LosesPackets output less → PeerStep config tests old e output new → PeerStep config tests old e less new
-loses_step config tests old e output less new l s = record {
+loses_step : (roster : Roster) (tests : Tests) (old : Peer) (e : Event) (output less : Output) (new : Peer)
+    → LosesPackets output less → PeerStep roster tests old e output new → PeerStep roster tests old e less new
+loses_step roster tests old e output less new l s = record {
   same_number = s.same_number;
   knows = subst (λ (r : Reply). Knows old e r new) (sym l.reply) s.knows;
-  step = subst (λ (r : Reply). EventStep config tests old e r new) (sym l.reply) s.step;
+  step = subst (λ (r : Reply). EventStep roster tests old e r new) (sym l.reply) s.step;
   sent = λ packet claim m claims. s.sent packet claim (l.leaves.of_packets packet m) claims;
 }
 
-loses_rules : (config : Config) (old : Peer) (e : Event) (output less : Output) (new : Peer) → LosesPackets output less
-    → KeepsRules config old e output new → KeepsRules config old e less new
-loses_rules config old (event.Call call) output less new l k =
-    subst (λ (r : Reply). SendsFor config old (effect_of old.part call r) less) (sym l.reply)
-    (effect_sent config old (effect_of old.part call output.reply) output less l k)
-loses_rules config old (event.Tick now) output less new l k =
-    subst (λ (r : Reply). AreSent (due_at_tick config old r) less.packets less.unsent) (sym l.reply)
-    (dues_sent (due_at_tick config old output.reply) output less l k)
-loses_rules config old (event.Deliver packet) output less new l k = record {
+loses_rules : (roster : Roster) (old : Peer) (e : Event) (output less : Output) (new : Peer) → LosesPackets output less
+    → KeepsRules roster old e output new → KeepsRules roster old e less new
+loses_rules roster old (event.Call call) output less new l k =
+    subst (λ (r : Reply). SendsFor roster old (effect_of old.part call r) less) (sym l.reply)
+    (effect_sent roster old (effect_of old.part call output.reply) output less l k)
+loses_rules roster old (event.Tick now) output less new l k =
+    subst (λ (r : Reply). AreSent (due_at_tick roster old r) less.packets less.unsent) (sym l.reply)
+    (dues_sent (due_at_tick roster old output.reply) output less l k)
+loses_rules roster old (event.Deliver packet) output less new l k = record {
   report = k.report;
   reply = l.reply ∙ k.reply;
   dues = k.dues;
   takes = k.takes;
   sent = dues_sent k.dues output less l k.sent;
 }
-loses_rules config old (event.Resume reader) output less new l k = (
+loses_rules roster old (event.Resume reader) output less new l k = (
   nothing_sent output less l k.0,
   subst (λ (r : Reply). ResumesByRules reader (network_of old) r (network_of new)) (sym l.reply) k.1,
 )
@@ -146,11 +146,11 @@ pub loses_steps : {F L : Type 0} (notices : L → List Notice) (capacity : L →
     → LosesPackets output less
     → Steps notices capacity becomes tests old e output new → Steps notices capacity becomes tests old e less new
 loses_steps notices capacity becomes tests old e output less new l s = record {
-  step = λ given config peer stands sound.
-      let k = s.step given config peer stands sound in (
+  step = λ given roster peer stands sound.
+      let k = s.step given roster peer stands sound in (
         k.0,
-        loses_step config tests peer e output less k.0 l k.1,
-        loses_rules config peer e output less k.0 l k.2,
+        loses_step roster tests peer e output less k.0 l k.1,
+        loses_rules roster peer e output less k.0 l k.2,
         k.3,
         k.4,
       );

@@ -54,14 +54,14 @@ module _ {L : Type 0} (notices : L → List Notice) (capacity : L → ℕ) (beco
       subst (λ (o : Option Status). Tells notices capacity becomes (λ part. told part (entity.Writer n) o) old slots
       (with_writer inside i k') after) (sym so)
       (told_by notices capacity becomes (entity.Writer n) status old slots (with_writer inside i k') after takes tell
-      (λ config peer given.
-      let s : StandsFor inside config peer = subst (λ (x : PeerKept). StandsFor x config peer) (sym view) given in
+      (λ roster peer given.
+      let s : StandsFor inside roster peer = subst (λ (x : PeerKept). StandsFor x roster peer) (sym view) given in
       let w : Writer = own_writer peer.part (suc i) in
-      subst (λ (m : ℕ). StandsFor (with_writer inside i k') config
+      subst (λ (m : ℕ). StandsFor (with_writer inside i k') roster
       (record peer { part = looked_at peer.part (entity.Writer m) status })) is
-      (subst (λ (p : Part). StandsFor (with_writer inside i k') config (record peer { part = p }))
+      (subst (λ (p : Part). StandsFor (with_writer inside i k') roster (record peer { part = p }))
       (sym (looked_is peer.part (suc i) status))
-      (writer_put config peer inside s i k k' at sees.same (writer_seen_by w status) peer.known.answered
+      (writer_put roster peer inside s i k k' at sees.same (writer_seen_by w status) peer.known.answered
       (sees.stands w (peer.known.answered (suc i)) (s.writers.each i k at)) (λ j apart r. refl)
       (tellable_put peer.part (suc i) (writer_seen_by w status) s.tellable (seen_changes w status))))))
 
@@ -77,7 +77,7 @@ module _ {L : Type 0} (notices : L → List Notice) (capacity : L → ℕ) (beco
   writer_raised raised status before mark old slots n i k new after is at marked so h =
       tells_as notices capacity becomes (λ part. told part (entity.Writer n) status)
       (λ part. told part (entity.Writer n) (raised (own_writer before n) (own_writer part n))) old slots new after
-      (λ config peer s.
+      (λ roster peer s.
       ap (λ (o : Option Status). told peer.part (entity.Writer n) o)
       (subst (λ (m : ℕ). status ≡ raised (own_writer before n) (own_writer peer.part m)) is
       (so (own_writer before n) marked (own_writer peer.part (suc i)) (peer.known.answered (suc i))

@@ -3,7 +3,7 @@
 --
 -- RTPS 2.5, 8.4.7 (ReaderProxy: requested_changes), 8.4.9 (reliable StatefulWriter), 8.3.8 (AckNack).
 use Rattle.std.specs.Prelude.{◌≡◌, ℕ, suc, ◌+◌, Bool, List, ◌++◌, length, take, set, slice_get, Option, Some}
-use Rattle.dds_base.specs.declared.config.Config.{Config}
+use Rattle.dds_protocol.specs.Roster.{Roster}
 use Rattle.dds_base.specs.declared.guid.GuidPrefix.{GuidPrefix}
 use Rattle.rtps_sets.specs.NumberSet.{NumberSet}
 use Rattle.rtps_wire.specs.declared.acknack.AckNack.{AckNack as AckNackBody}
@@ -68,14 +68,14 @@ TakesRow old index row a effects new after =
     → RowTook old index row a k name effects.moves.items effects.sent new after.moves.items after.sent
 
 -- for each state that the old values stand for, the writer of this index took the ACKNACK as to each of these readers
-pub record RowsTook (config : Config) (own : GuidPrefix) (at : Receiver) (a : AckNackBody) (index : ℕ)
+pub record RowsTook (roster : Roster) (own : GuidPrefix) (at : Receiver) (a : AckNackBody) (index : ℕ)
     (names : List ReaderName) (peer : Peer) (made : List Move) (sent : Announced) (new : PeerKept)
     (gone : Announced) : Type 0 where
   pub state : State
   pub dues : List Due
-  pub turn : InTurn (λ (n : ReaderName). WriterTakes config own peer.number at a (suc index) n.reader) names
+  pub turn : InTurn (λ (n : ReaderName). WriterTakes roster own peer.number at a (suc index) n.reader) names
       (state_of peer) made dues state
-  pub stands : StandsFor new config (with_state peer state)
+  pub stands : StandsFor new roster (with_state peer state)
   pub adds : AddsTo dues sent gone
 
 -- so many of the readers of the writer of this index, which keeps this, were answered
@@ -83,9 +83,9 @@ pub record TakesRows (old : PeerKept) (index : ℕ) (a : AckNackBody) (k : Write
     (count : ℕ) (effects : Effects) (now : PeerKept) (after : Effects) : Type 0 where
   pub made : List Move
   pub after_is : after.moves.items ≡ effects.moves.items ++ made
-  pub takes : (at : Receiver) → AreRooms old.prefix k.entity at a k.readers rooms → (config : Config) (peer : Peer)
-      → StandsFor old config peer
-      → RowsTook config old.prefix at a index (take count k.readers) peer made effects.sent now after.sent
+  pub takes : (at : Receiver) → AreRooms old.prefix k.entity at a k.readers rooms → (roster : Roster) (peer : Peer)
+      → StandsFor old roster peer
+      → RowsTook roster old.prefix at a index (take count k.readers) peer made effects.sent now after.sent
   pub there : WriterKept
   pub at : slice_get now.writers index ≡ Some there
   pub same : writer_identity there ≡ writer_identity k

@@ -4,7 +4,7 @@
 -- DDS 1.4, 2.2.2.5 (QueryCondition).
 use Rattle.std.specs.Prelude.{◌≡◌, ℕ, ◌+◌, [], ◌∷◌, ◌++◌, length, None}
 use Rattle.dds_base.specs.declared.code.Code.{Code}
-use Rattle.dds_base.specs.declared.config.Config.{Config}
+use Rattle.dds_protocol.specs.Roster.{Roster}
 use Rattle.dds_base.specs.Refusal.{Refuses}
 use Rattle.dds_conditions.specs.Watched.{filter_refusal}
 use Rattle.dds_protocol.specs.declared.event.Event.{Event}
@@ -20,10 +20,10 @@ use Rattle.dds_core.specs.Filtering.{FilteredKept, StandsFor}
 -- rules of the protocol. The filters stay.
 pub record Steps {F : Type 0} (tests : Tests) (old : FilteredKept F) (event : Event) (output : Output)
     (new : FilteredKept F) : Type 0 where
-  pub step : (config : Config) (peer : Peer) → StandsFor old config peer → IsSound config peer
-      → (after : Peer) × PeerStep config tests peer event output after × StandsFor new config after
-      × IsSound config after
-      × KeepsRules config peer event output after
+  pub step : (roster : Roster) (peer : Peer) → StandsFor old roster peer → IsSound roster peer
+      → (after : Peer) × PeerStep roster tests peer event output after × StandsFor new roster after
+      × IsSound roster after
+      × KeepsRules roster peer event output after
   pub filters : new.filters ≡ old.filters
 
 -- The filter is the last one. For each state that the old values stand for there is a number for it, and it is this
@@ -31,12 +31,12 @@ pub record Steps {F : Type 0} (tests : Tests) (old : FilteredKept F) (event : Ev
 -- was before.
 pub record Adds {F : Type 0} (old : FilteredKept F) (filter : F) (number : ℕ) (new : FilteredKept F) : Type 0 where
   pub filters : new.filters ≡ old.filters ++ filter ∷ []
-  pub adds : (config : Config) (peer : Peer) → StandsFor old config peer
+  pub adds : (roster : Roster) (peer : Peer) → StandsFor old roster peer
       → (filter_refusal peer.part.dds.watch ≡ None) × (number ≡ length old.filters + 1)
-      × StandsFor new config (peer_with_filter peer)
-      × (IsSound config peer → IsSound config (peer_with_filter peer))
+      × StandsFor new roster (peer_with_filter peer)
+      × (IsSound roster peer → IsSound roster (peer_with_filter peer))
 
 -- for each state that the old values stand for, a filter is refused so: for want of a number, or else of memory
 abbrev pub RefusesFilter : {F : Type 0} → FilteredKept F → Code → Type 0
 RefusesFilter old code =
-    (config : Config) (peer : Peer) → StandsFor old config peer → Refuses (filter_refusal peer.part.dds.watch) code
+    (roster : Roster) (peer : Peer) → StandsFor old roster peer → Refuses (filter_refusal peer.part.dds.watch) code

@@ -4,7 +4,7 @@
 use Rattle.std.specs.Prelude.{◌≡◌, ◌≢◌, ℕ, ◌+◌, List, [], ◌∷◌, ◌++◌, length, Option, None, Some}
 use Rattle.dds_base.specs.declared.code.Code.{Code}
 use Rattle.dds_base.specs.declared.code.Code.TheVariants.{Memory}
-use Rattle.dds_base.specs.declared.config.Config.{Config}
+use Rattle.dds_protocol.specs.Roster.{Roster}
 use Rattle.dds_base.specs.declared.entity.Entity.{Entity}
 use Rattle.dds_notices.specs.declared.mask.StatusMask.{StatusMask}
 use Rattle.dds_notices.specs.declared.notice.Notice.{Notice}
@@ -34,8 +34,8 @@ no_listeners part = nobody (length part.rtps.writers) (length part.dds.readers)
 -- that it was told, by the notices that it keeps and how many it can keep, and is what the one that was given became by
 -- being told.
 pub record StandsFor {F L : Type 0} (notices : L → List Notice) (capacity : L → ℕ) (becomes : L → Notice → L → Type 0)
-    (given : ByEntity L) (kept : CoreKept F L) (config : Config) (peer : Peer) : Type 0 where
-  pub stands : FilteredStandsFor kept.filtered config peer
+    (given : ByEntity L) (kept : CoreKept F L) (roster : Roster) (peer : Peer) : Type 0 where
+  pub stands : FilteredStandsFor kept.filtered roster peer
   pub listeners : SlotsStandFor notices capacity becomes given kept.listeners peer.part.dds.listeners
 
 -- For each state that the old values stand for, and of which all that is known was claimed, the event is a step by what
@@ -43,11 +43,11 @@ pub record StandsFor {F L : Type 0} (notices : L → List Notice) (capacity : L 
 -- values stand for the state after that, and all that is known of it was claimed. The filters stay.
 pub record Steps {F L : Type 0} (notices : L → List Notice) (capacity : L → ℕ) (becomes : L → Notice → L → Type 0)
     (tests : Tests) (old : CoreKept F L) (event : Event) (output : Output) (new : CoreKept F L) : Type 0 where
-  pub step : (given : ByEntity L) (config : Config) (peer : Peer)
-      → StandsFor notices capacity becomes given old config peer → IsSound config peer
-      → (stepped : Peer) × PeerStep config tests peer event output stepped × KeepsRules config peer event output stepped
-      × StandsFor notices capacity becomes given new config (peer_at_end peer stepped)
-      × IsSound config (peer_at_end peer stepped)
+  pub step : (given : ByEntity L) (roster : Roster) (peer : Peer)
+      → StandsFor notices capacity becomes given old roster peer → IsSound roster peer
+      → (stepped : Peer) × PeerStep roster tests peer event output stepped × KeepsRules roster peer event output stepped
+      × StandsFor notices capacity becomes given new roster (peer_at_end peer stepped)
+      × IsSound roster (peer_at_end peer stepped)
   pub filters : new.filtered.filters ≡ old.filtered.filters
 
 -- The filter is the last one. For each state that the old values stand for there is a number for it, and it is this
@@ -56,17 +56,17 @@ pub record Steps {F L : Type 0} (notices : L → List Notice) (capacity : L → 
 pub record Adds {F L : Type 0} (notices : L → List Notice) (capacity : L → ℕ) (becomes : L → Notice → L → Type 0)
     (old : CoreKept F L) (filter : F) (number : ℕ) (new : CoreKept F L) : Type 0 where
   pub filters : new.filtered.filters ≡ old.filtered.filters ++ filter ∷ []
-  pub adds : (given : ByEntity L) (config : Config) (peer : Peer)
-      → StandsFor notices capacity becomes given old config peer
+  pub adds : (given : ByEntity L) (roster : Roster) (peer : Peer)
+      → StandsFor notices capacity becomes given old roster peer
       → (filter_refusal peer.part.dds.watch ≡ None) × (number ≡ length old.filtered.filters + 1)
-      × StandsFor notices capacity becomes given new config (peer_with_filter peer)
-      × (IsSound config peer → IsSound config (peer_with_filter peer))
+      × StandsFor notices capacity becomes given new roster (peer_with_filter peer)
+      × (IsSound roster peer → IsSound roster (peer_with_filter peer))
 
 -- for each state that the old values stand for, a filter is refused so: for want of a number, or else of memory
 abbrev pub RefusesFilter : {F L : Type 0} → (L → List Notice) → (L → ℕ) → (L → Notice → L → Type 0) → CoreKept F L
     → Code → Type 0
 RefusesFilter {F} {L} notices capacity becomes old code =
-    (given : ByEntity L) (config : Config) (peer : Peer) → StandsFor notices capacity becomes given old config peer
+    (given : ByEntity L) (roster : Roster) (peer : Peer) → StandsFor notices capacity becomes given old roster peer
     → Refuses (filter_refusal peer.part.dds.watch) code
 
 -- A listener was set at an entity, or taken away there. For each state that the old values stand for it is not refused;
@@ -75,19 +75,19 @@ RefusesFilter {F} {L} notices capacity becomes old code =
 pub record Sets {F L : Type 0} (notices : L → List Notice) (capacity : L → ℕ) (becomes : L → Notice → L → Type 0)
     (old : CoreKept F L) (entity : Entity) (mask : StatusMask) (listener handed : Option L) (new : CoreKept F L) : Type 0 where
   pub filters : new.filtered.filters ≡ old.filtered.filters
-  pub sets : (given : ByEntity L) (config : Config) (peer : Peer)
-      → StandsFor notices capacity becomes given old config peer
+  pub sets : (given : ByEntity L) (roster : Roster) (peer : Peer)
+      → StandsFor notices capacity becomes given old roster peer
       → (listener_refusal notices peer.part.dds.listeners entity listener ≡ None)
       × HandedBack notices capacity becomes (at_entity given entity) handed (at_entity peer.part.dds.listeners entity)
-      × StandsFor notices capacity becomes (with_entity given entity listener) new config
+      × StandsFor notices capacity becomes (with_entity given entity listener) new roster
       (peer_with_place peer entity (listener_place capacity mask listener))
-      × (IsSound config peer → IsSound config (peer_with_place peer entity (listener_place capacity mask listener)))
+      × (IsSound roster peer → IsSound roster (peer_with_place peer entity (listener_place capacity mask listener)))
 
 -- for each state that the values stand for there is such an entity, and its listener keeps these notices
 abbrev pub AreKept : {F L : Type 0} → (L → List Notice) → (L → ℕ) → (L → Notice → L → Type 0) → CoreKept F L → Entity
     → List Notice → Type 0
 AreKept {F} {L} notices capacity becomes kept entity told =
-    (given : ByEntity L) (config : Config) (peer : Peer) → StandsFor notices capacity becomes given kept config peer
+    (given : ByEntity L) (roster : Roster) (peer : Peer) → StandsFor notices capacity becomes given kept roster peer
     → (unknown_entity peer.part.dds.listeners entity ≡ None)
     × (told ≡ kept_in (at_entity peer.part.dds.listeners entity))
 
@@ -96,7 +96,7 @@ AreKept {F} {L} notices capacity becomes kept entity told =
 abbrev pub RefusesEntity : {F L : Type 0} → (L → List Notice) → (L → ℕ) → (L → Notice → L → Type 0) → CoreKept F L
     → Entity → Code → Type 0
 RefusesEntity {F} {L} notices capacity becomes kept entity code =
-    (given : ByEntity L) (config : Config) (peer : Peer) → StandsFor notices capacity becomes given kept config peer
+    (given : ByEntity L) (roster : Roster) (peer : Peer) → StandsFor notices capacity becomes given kept roster peer
     → Refuses (unknown_entity peer.part.dds.listeners entity) code
     × (code ≡ Memory → kept_in (at_entity peer.part.dds.listeners entity) ≢ [])
 
@@ -105,5 +105,5 @@ abbrev pub RefusesListener : {F L : Type 0} → (L → List Notice) → (L → �
     → Entity → Option L → Code
     → Type 0
 RefusesListener {F} {L} notices capacity becomes old entity listener code =
-    (given : ByEntity L) (config : Config) (peer : Peer) → StandsFor notices capacity becomes given old config peer
+    (given : ByEntity L) (roster : Roster) (peer : Peer) → StandsFor notices capacity becomes given old roster peer
     → listener_refusal notices peer.part.dds.listeners entity listener ≡ Some code

@@ -7,7 +7,7 @@ use Rattle.dds_base.specs.declared.change.Change.{Change}
 use Rattle.dds_base.specs.declared.change.ChangeKind.{ChangeKind}
 use Rattle.dds_base.specs.declared.change.ChangeKind.TheVariants as kind
 use Rattle.dds_base.specs.declared.code.Code.{Code}
-use Rattle.dds_base.specs.declared.config.Config.{Config}
+use Rattle.dds_protocol.specs.Roster.{Roster}
 use Rattle.dds_base.specs.declared.key.Key.{Key}
 use Rattle.dds_base.specs.Refusal.{Refuses}
 use Rattle.dds_base.specs.Written.{Changed}
@@ -32,25 +32,25 @@ abbrev pub IsValueOf : ChangeKind → List ℕ → Type 0
 IsValueOf k value = k ≢ kind.Write → value ≡ []
 
 -- the change is refused, as the history says or for want of memory, and that is all
-pub record IsNotMade (config : Config) (peer : Peer) (writer : ℕ) (change : Change) (output : Output)
+pub record IsNotMade (roster : Roster) (peer : Peer) (writer : ℕ) (change : Change) (output : Output)
     (new : PeerKept) : Type 0 where
   pub code : Code
   pub cause : Refuses (change_refusal peer.part writer change) code
   pub output_is : output ≡ record { reply = Refused code; packets = []; unsent = 0 }
-  pub stands : StandsFor new config peer
+  pub stands : StandsFor new roster peer
 
 -- the change is made and announced, and what is sent claims the truth
-pub record IsMade (config : Config) (peer : Peer) (writer : ℕ) (change : Change) (output : Output)
+pub record IsMade (roster : Roster) (peer : Peer) (writer : ℕ) (change : Change) (output : Output)
     (new : PeerKept) : Type 0 where
   pub accepted : change_refusal peer.part writer change ≡ None
   pub reply : output.reply ≡ Done
-  pub sends : SendsFor config peer (writes writer (Changed change)) output
-  pub is_true : (packet : Packet) (claim : Claim) → Contains output.packets packet → Claims config packet.bytes claim
+  pub sends : SendsFor roster peer (writes writer (Changed change)) output
+  pub is_true : (packet : Packet) (claim : Claim) → Contains output.packets packet → Claims roster packet.bytes claim
       → IsTrueAt peer.number (entered peer.part writer change) claim
-  pub stands : StandsFor new config (record peer { part = entered peer.part writer change })
+  pub stands : StandsFor new roster (record peer { part = entered peer.part writer change })
 
 -- one or the other, for each state that the old values stand for
 abbrev pub Makes : PeerKept → ℕ → ChangeKind → Key → List ℕ → Output → PeerKept → Type 0
-Makes old index k key value output new = (config : Config) (peer : Peer) → StandsFor old config peer
-    → IsMade config peer (index + 1) (change_made peer.part (index + 1) k key value) output new
-    ⊎ IsNotMade config peer (index + 1) (change_made peer.part (index + 1) k key value) output new
+Makes old index k key value output new = (roster : Roster) (peer : Peer) → StandsFor old roster peer
+    → IsMade roster peer (index + 1) (change_made peer.part (index + 1) k key value) output new
+    ⊎ IsNotMade roster peer (index + 1) (change_made peer.part (index + 1) k key value) output new

@@ -3,7 +3,7 @@
 --
 -- DDS 1.4, 2.2.4.1 (communication statuses), 2.2.4.3 (access through listeners).
 use Rattle.std.specs.Prelude.{◌≡◌, ℕ, suc, List, slice_get, Some}
-use Rattle.dds_base.specs.declared.config.Config.{Config}
+use Rattle.dds_protocol.specs.Roster.{Roster}
 use Rattle.dds_notices.specs.declared.notice.Notice.{Notice}
 use Rattle.dds_notices.specs.Listeners.{ByEntity, Slotted, StandsFor as SlotsStandFor}
 use Rattle.dds_machine.specs.Part.{Part, own_proxies, own_reader, own_writer}
@@ -24,7 +24,7 @@ pub record AreMarksOf (marks : Marks) (part : Part) : Type 0 where
 
 -- so it is for each state that the values stand for
 abbrev pub MarksPeer : PeerKept → Marks → Type 0
-MarksPeer kept marks = (config : Config) (peer : Peer) → StandsFor kept config peer → AreMarksOf marks peer.part
+MarksPeer kept marks = (roster : Roster) (peer : Peer) → StandsFor kept roster peer → AreMarksOf marks peer.part
 
 -- for each state that a peer stands for, with the places that its listeners stand for, both stand for what the change
 -- makes of it
@@ -32,7 +32,7 @@ abbrev pub Tells : {L : Type 0} → (L → List Notice) → (L → ℕ) → (L �
     → Slotted L → PeerKept
     → Slotted L → Type 0
 Tells {L} notices capacity becomes change old slots new after =
-    (given : ByEntity L) (config : Config) (peer : Peer) → StandsFor old config peer
+    (given : ByEntity L) (roster : Roster) (peer : Peer) → StandsFor old roster peer
     → SlotsStandFor notices capacity becomes given slots peer.part.dds.listeners
-    → StandsFor new config (record peer { part = change peer.part })
+    → StandsFor new roster (record peer { part = change peer.part })
     × SlotsStandFor notices capacity becomes given after (change peer.part).dds.listeners

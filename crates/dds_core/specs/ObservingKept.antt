@@ -3,7 +3,7 @@
 --
 -- RTPS 2.5, 8.3.4 (the message receiver), 8.4.10 (StatefulReader, WriterProxy).
 use Rattle.std.specs.Prelude.{◌≡◌, ◌≤◌, ℕ, Bool, List, slice_get, Option, Some}
-use Rattle.dds_base.specs.declared.config.Config.{Config}
+use Rattle.dds_protocol.specs.Roster.{Roster}
 use Rattle.dds_base.specs.declared.guid.EntityId.{EntityId}
 use Rattle.dds_base.specs.declared.guid.GuidPrefix.{GuidPrefix}
 use Rattle.rtps_wire.specs.declared.acknack.AckNack.{AckNack as AckNackBody}
@@ -30,8 +30,8 @@ CountsOld own of at submessage kept n = (old : Bool) × IsOldIn own of at submes
 -- for each peer that the values stand for, to so many of its readers the submessage is old, whom it names
 abbrev pub OldToReaders : PeerKept → Option Endpoint → Receiver → Submessage → ℕ → Type 0
 OldToReaders kept of at submessage n =
-    (config : Config) (peer : Peer) → StandsFor kept config peer → (reader_id writer_id : EntityId)
-    → NamedBy submessage reader_id writer_id → OldTo config kept.prefix peer of at reader_id writer_id submessage n
+    (roster : Roster) (peer : Peer) → StandsFor kept roster peer → (reader_id writer_id : EntityId)
+    → NamedBy submessage reader_id writer_id → OldTo roster kept.prefix peer of at reader_id writer_id submessage n
 
 -- a submessage that names these is for the reader of this index
 pub record IsNamedReader (own : GuidPrefix) (at : Receiver) (reader_id writer_id : EntityId) (readers : List ReaderKept)
@@ -75,21 +75,21 @@ NamesNoWriter own at a writers =
 -- for each peer that the values stand for this is 1 where the submessage speaks, and concerns nobody there, else 0
 abbrev pub ToNobodyOf : PeerKept → Receiver → Submessage → ℕ → Type 0
 ToNobodyOf kept at submessage n =
-    (config : Config) (peer : Peer) → StandsFor kept config peer
-    → ToNobody config kept.prefix peer at submessage n
+    (roster : Roster) (peer : Peer) → StandsFor kept roster peer
+    → ToNobody roster kept.prefix peer at submessage n
 
 -- what one submessage holds, at a peer
-pub record ObservesOne (config : Config) (own : GuidPrefix) (peer : Peer) (of : Option Endpoint) (at : Receiver)
+pub record ObservesOne (roster : Roster) (own : GuidPrefix) (peer : Peer) (of : Option Endpoint) (at : Receiver)
     (submessage : Submessage) (seen : Observed) : Type 0 where
-  pub old_data : OldData config own peer of at submessage seen.old_data
-  pub old_heartbeats : OldHeartbeats config own peer of at submessage seen.old_heartbeats
-  pub to_nobody : ToNobody config own peer at submessage seen.to_nobody
+  pub old_data : OldData roster own peer of at submessage seen.old_data
+  pub old_heartbeats : OldHeartbeats roster own peer of at submessage seen.old_heartbeats
+  pub to_nobody : ToNobody roster own peer at submessage seen.to_nobody
 
 -- the same, for each peer that the values stand for
 abbrev pub ObservesSubmessage : PeerKept → Option Endpoint → Receiver → Submessage → Observed → Type 0
 ObservesSubmessage kept of at submessage seen =
-    (config : Config) (peer : Peer) → StandsFor kept config peer
-    → ObservesOne config kept.prefix peer of at submessage seen
+    (roster : Roster) (peer : Peer) → StandsFor kept roster peer
+    → ObservesOne roster kept.prefix peer of at submessage seen
 
 -- the same of the submessage of this id, these flags and this body, which leaves this receiver
 pub record ObservesFrame (kept : PeerKept) (of : Option Endpoint) (at : Receiver) (id flags : ℕ) (body : List ℕ)
@@ -108,17 +108,17 @@ pub record SumsBody (own : GuidPrefix) (says : Receiver → Submessage → ℕ �
   pub sums : SumsInTurn own says at submessages n
 
 -- what the submessages that follow the header of a message hold, at a peer
-pub record ObservesAll (config : Config) (own source : GuidPrefix) (peer : Peer) (of : Option Endpoint)
+pub record ObservesAll (roster : Roster) (own source : GuidPrefix) (peer : Peer) (of : Option Endpoint)
     (body : List ℕ) (seen : Observed) : Type 0 where
-  pub old_data : SumsBody own (OldData config own peer of) (receiver_of source) body seen.old_data
-  pub old_heartbeats : SumsBody own (OldHeartbeats config own peer of) (receiver_of source) body seen.old_heartbeats
-  pub to_nobody : SumsBody own (ToNobody config own peer) (receiver_of source) body seen.to_nobody
+  pub old_data : SumsBody own (OldData roster own peer of) (receiver_of source) body seen.old_data
+  pub old_heartbeats : SumsBody own (OldHeartbeats roster own peer of) (receiver_of source) body seen.old_heartbeats
+  pub to_nobody : SumsBody own (ToNobody roster own peer) (receiver_of source) body seen.to_nobody
 
 -- the same, for each peer that the values stand for
 abbrev pub ObservesBody : PeerKept → Option Endpoint → GuidPrefix → List ℕ → Observed → Type 0
 ObservesBody kept of source body seen =
-    (config : Config) (peer : Peer) → StandsFor kept config peer
-    → ObservesAll config kept.prefix source peer of body seen
+    (roster : Roster) (peer : Peer) → StandsFor kept roster peer
+    → ObservesAll roster kept.prefix source peer of body seen
 
 -- each count is at most this
 pub record AtMost (most : ℕ) (seen : Observed) : Type 0 where

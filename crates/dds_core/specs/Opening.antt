@@ -10,7 +10,7 @@ use Rattle.dds_base.specs.Checked.{check_refusal}
 use Rattle.dds_machine.specs.Numbered.{has_element}
 use Rattle.dds_protocol.specs.Opening.{opening_world}
 use Rattle.dds_protocol.specs.Peer.{Peer}
-use Rattle.dds_protocol.specs.Roster.{ComeFirst, IsRoster}
+use Rattle.dds_protocol.specs.Roster.{AreGood, ComeFirst, Roster, roster_of}
 use Rattle.dds_protocol.specs.World.{peer_at}
 
 -- why there is no peer of this number: the configuration is refused, or has none
@@ -23,6 +23,6 @@ core_refusal peers peer =
 abbrev pub opening_peer : Config → ℕ → Peer
 opening_peer config peer = peer_at (opening_world config) peer
 
--- so it is in each roster in which the peers of the configuration come first
-abbrev pub InRosters : Config → (Config → Type 0) → Type 0
-InRosters config Is = (roster : Config) → ComeFirst config roster → IsRoster roster.peers → Is roster
+-- so it is by the roster of each list of peers in which those of the configuration come first
+abbrev pub InRosters : Config → (Roster → Type 0) → Type 0
+InRosters config Is = (all : Config) → ComeFirst config all → AreGood all.peers → Is (roster_of all)

@@ -3,6 +3,7 @@
 -- DDS 1.4, 2.2.3 (policies of matched entities); RTPS 2.5, 8.2 (Participant, Endpoint).
 use Rattle.std.specs.Prelude.{◌≡◌, ℕ, ◌+◌, List, length, slice_get, Some}
 use Rattle.dds_base.specs.declared.config.PeerConfig.{PeerConfig}
+use Rattle.dds_protocol.specs.Roster.{roster_of}
 use Rattle.dds_core.specs.Kept.{PeerKept}
 use Rattle.dds_core.specs.Standing.{StandsFor}
 use Rattle.dds_core.specs.Opening.{opening_peer}
@@ -15,4 +16,4 @@ pub record OpensEach {C K : Type 0} (Opens : C → K → Type 0) (configs : List
 -- the peer of this index stands for its opening
 abbrev pub OpensCore : List PeerConfig → ℕ → PeerKept → Type 0
 OpensCore peers index kept =
-    StandsFor kept (record { peers = peers }) (opening_peer (record { peers = peers }) (index + 1))
+    StandsFor kept (roster_of (record { peers = peers })) (opening_peer (record { peers = peers }) (index + 1))

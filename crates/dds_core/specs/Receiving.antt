@@ -6,7 +6,7 @@
 use Rattle.std.specs.Prelude.{◌≡◌, ◌+◌, ◌≤◌, ℕ, Bool, zero, suc, List, [], ◌∷◌, ◌++◌, set, length, slice_get, Option, None, Some, Result, OnErr, IfErr}
 use Rattle.dds_base.specs.declared.code.Code.{Code}
 use Rattle.dds_base.specs.declared.code.Code.TheVariants.{Memory}
-use Rattle.dds_base.specs.declared.config.Config.{Config}
+use Rattle.dds_protocol.specs.Roster.{Roster}
 use Rattle.dds_base.specs.declared.guid.GuidPrefix.{GuidPrefix}
 use Rattle.dds_base.specs.Kept.{numbers_from}
 use Rattle.rtps_reader.specs.declared.step.Step.{Step}
@@ -82,20 +82,20 @@ abbrev pub with_state : Peer → State → Peer
 with_state peer state = record peer { part = state.part; known = state.known }
 
 -- for each state that the old values stand for, so many of its readers took the submessage up, one after the other
-pub record ReadersTook (config : Config) (own : GuidPrefix) (at : Receiver) (submessage : Submessage) (count : ℕ)
+pub record ReadersTook (roster : Roster) (own : GuidPrefix) (at : Receiver) (submessage : Submessage) (count : ℕ)
     (peer : Peer) (made : List Move) (sent : Announced) (new : PeerKept) (gone : Announced) : Type 0 where
   pub state : State
   pub dues : List Due
-  pub turn : InTurn (ReaderTakes config own peer.number at submessage) (numbers_from 1 count)
+  pub turn : InTurn (ReaderTakes roster own peer.number at submessage) (numbers_from 1 count)
       (state_of peer) made dues state
-  pub stands : StandsFor new config (with_state peer state)
+  pub stands : StandsFor new roster (with_state peer state)
   pub adds : AddsTo dues sent gone
 
 -- the same, said of each state that the old values stand for
 abbrev pub ReadersTake : PeerKept → Receiver → Submessage → ℕ → List Move → Announced → PeerKept → Announced → Type 0
 ReadersTake old at submessage count made sent new gone =
-    (config : Config) (peer : Peer) → StandsFor old config peer
-    → ReadersTook config old.prefix at submessage count peer made sent new gone
+    (roster : Roster) (peer : Peer) → StandsFor old roster peer
+    → ReadersTook roster old.prefix at submessage count peer made sent new gone
 
 -- each reader is told what was ready for it
 pub record TakesAll (old : PeerKept) (ready : List (Option Ready)) (effects : Effects) (new : PeerKept)
@@ -113,12 +113,12 @@ pub record TellsReaders (old : PeerKept) (at : Receiver) (submessage : Submessag
   pub takes : ReadersTake old at submessage (length old.readers) made effects.sent new after.sent
 
 -- for each state that the old values stand for, a submessage was taken up, and what was then due was sent
-pub record TookSubmessage (config : Config) (own : GuidPrefix) (at : Receiver) (submessage : Submessage) (peer : Peer)
+pub record TookSubmessage (roster : Roster) (own : GuidPrefix) (at : Receiver) (submessage : Submessage) (peer : Peer)
     (made : List Move) (sent : Announced) (new : PeerKept) (gone : Announced) : Type 0 where
   pub state : State
   pub dues : List Due
-  pub takes : Takes config own peer.number at submessage (state_of peer) made dues state
-  pub stands : StandsFor new config (with_state peer state)
+  pub takes : Takes roster own peer.number at submessage (state_of peer) made dues state
+  pub stands : StandsFor new roster (with_state peer state)
   pub adds : AddsTo dues sent gone
 
 -- the same, after other moves
@@ -126,8 +126,8 @@ pub record TakesOneMore (old : PeerKept) (at : Receiver) (submessage : Submessag
     (after : Effects) : Type 0 where
   pub made : List Move
   pub after_is : after.moves.items ≡ effects.moves.items ++ made
-  pub takes : (config : Config) (peer : Peer) → StandsFor old config peer
-      → TookSubmessage config old.prefix at submessage peer made effects.sent new after.sent
+  pub takes : (roster : Roster) (peer : Peer) → StandsFor old roster peer
+      → TookSubmessage roster old.prefix at submessage peer made effects.sent new after.sent
 
 -- the submessage of this id, these flags and this body was taken up, after other moves, and leaves this receiver
 pub record TakesFrame (old : PeerKept) (at : Receiver) (id flags : ℕ) (body : List ℕ) (effects : Effects)
@@ -140,8 +140,8 @@ pub record TakesFrame (old : PeerKept) (at : Receiver) (id flags : ℕ) (body : 
 -- for each state that the old values stand for, the submessage may need memory
 abbrev pub NeedsMemory : PeerKept → Receiver → Submessage → Type 0
 NeedsMemory old at submessage =
-    (config : Config) (peer : Peer) → StandsFor old config peer
-    → MayNeedMemory config old.prefix peer.number at submessage (state_of peer)
+    (roster : Roster) (peer : Peer) → StandsFor old roster peer
+    → MayNeedMemory roster old.prefix peer.number at submessage (state_of peer)
 
 -- so may the one of this id, these flags and this body
 pub record FrameNeedsMemory (old : PeerKept) (at : Receiver) (id flags : ℕ) (body : List ℕ) : Type 0 where
@@ -151,7 +151,7 @@ pub record FrameNeedsMemory (old : PeerKept) (at : Receiver) (id flags : ℕ) (b
 
 -- the new values stand for what the old ones stood for
 abbrev pub StandsAsWell : PeerKept → PeerKept → Type 0
-StandsAsWell old new = (config : Config) (peer : Peer) → StandsFor old config peer → StandsFor new config peer
+StandsAsWell old new = (roster : Roster) (peer : Peer) → StandsFor old roster peer → StandsFor new roster peer
 
 -- more was done: what is moved is kept twice, or once, as before; so many more packets found no memory, at most; and
 -- what is sent are messages, if what was sent before was. What was moved and sent, others say.
@@ -174,12 +174,12 @@ pub record KeepsPeer (more : ℕ) (old : PeerKept) (effects : Effects) (new : Pe
   pub memory : IfErr answer (λ code. code ≡ Memory)
 
 -- these bytes are submessages, which are taken up from this index on
-pub record FollowsBody (config : Config) (own : GuidPrefix) (peer index : ℕ) (at : Receiver) (body : List ℕ)
+pub record FollowsBody (roster : Roster) (own : GuidPrefix) (peer index : ℕ) (at : Receiver) (body : List ℕ)
     (old : State) (moves : List Move) (refused : Option ℕ) (dues : List Due) (new : State) : Type 0 where
   pub submessages : List Submessage
   pub left : List ℕ
   pub is_read : ReadsAll body submessages left
-  pub follows : FollowsMessage config own peer index at submessages old moves refused dues new
+  pub follows : FollowsMessage roster own peer index at submessages old moves refused dues new
 
 -- the bytes are the three submessages that announce a write, and what is left where reading ends
 abbrev pub Announces : List ℕ → Announcement → Type 0
@@ -188,31 +188,31 @@ Announces body it =
 
 -- for each state that the old values stand for, the submessages that follow the header of a message are taken up with
 -- this report, and what is then due is sent
-pub record TookBody (config : Config) (peer : Peer) (own source : GuidPrefix) (body : List ℕ) (report : Report)
+pub record TookBody (roster : Roster) (peer : Peer) (own source : GuidPrefix) (body : List ℕ) (report : Report)
     (new : PeerKept) (gone : Announced) : Type 0 where
   pub state : State
   pub dues : List Due
-  pub follows : FollowsBody config own peer.number 0 (receiver_of source) body (state_of peer)
+  pub follows : FollowsBody roster own peer.number 0 (receiver_of source) body (state_of peer)
       report.moves report.refused dues state
-  pub stands : StandsFor new config (with_state peer state)
+  pub stands : StandsFor new roster (with_state peer state)
   pub sent : AreSent dues gone.packets.items gone.unsent
 
 -- the same, said of each state that the old values stand for
 abbrev pub TakesBody : PeerKept → GuidPrefix → List ℕ → Report → PeerKept → Announced → Type 0
 TakesBody old source body report new gone =
-    (config : Config) (peer : Peer) → StandsFor old config peer
-    → TookBody config peer old.prefix source body report new gone
+    (roster : Roster) (peer : Peer) → StandsFor old roster peer
+    → TookBody roster peer old.prefix source body report new gone
 
 -- for each state that the old values stand for, this is what is done with a packet
-pub record ReceivedPacket (config : Config) (peer : Peer) (bytes : List ℕ) (report : Report) (new : PeerKept)
+pub record ReceivedPacket (roster : Roster) (peer : Peer) (bytes : List ℕ) (report : Report) (new : PeerKept)
     (gone : Announced) : Type 0 where
   pub state : State
   pub dues : List Due
-  pub takes : TakesPacket config peer.number bytes (state_of peer) report dues state
-  pub stands : StandsFor new config (with_state peer state)
+  pub takes : TakesPacket roster peer.number bytes (state_of peer) report dues state
+  pub stands : StandsFor new roster (with_state peer state)
   pub sent : AreSent dues gone.packets.items gone.unsent
 
 -- the same, said of each state that the old values stand for
 abbrev pub ReceivesPacket : PeerKept → List ℕ → Report → PeerKept → Announced → Type 0
 ReceivesPacket old bytes report new gone =
-    (config : Config) (peer : Peer) → StandsFor old config peer → ReceivedPacket config peer bytes report new gone
+    (roster : Roster) (peer : Peer) → StandsFor old roster peer → ReceivedPacket roster peer bytes report new gone

@@ -3,7 +3,7 @@
 --
 -- DDS 1.4, 2.2.2.5 (ReadCondition, QueryCondition: get_trigger_value).
 use Rattle.std.specs.Prelude.{◌≡◌, ◌⊎◌, ℕ, ◌≤◌, Bool, false, List, length, All, Contains}
-use Rattle.dds_base.specs.declared.config.Config.{Config}
+use Rattle.dds_protocol.specs.Roster.{Roster}
 use Rattle.dds_base.specs.declared.key.Key.{Key}
 use Rattle.dds_base.specs.Access.{has_match}
 use Rattle.dds_conditions.specs.Filtered.{tests_of}
@@ -33,14 +33,14 @@ pub record IsMiss (tests : Tests) (part : Part) (miss : Miss) : Type 0 where
 -- so it is of each of these in each state that a peer stands for
 abbrev pub AreMisses : Tests → PeerKept → List Miss → Type 0
 AreMisses tests kept misses =
-    (config : Config) (peer : Peer) → StandsFor kept config peer → All (IsMiss tests peer.part) misses
+    (roster : Roster) (peer : Peer) → StandsFor kept roster peer → All (IsMiss tests peer.part) misses
 
 -- there is a state that a core stands for, of which all that is known was claimed, and in which each of these is so
 pub record Remembers {F L : Type 0} (notices : L → List Notice) (capacity : L → ℕ) (becomes : L → Notice → L → Type 0)
     (meaning : F → Key → List ℕ → Bool) (kept : CoreKept F L) (misses : List Miss) : Type 0 where
   pub given : ByEntity L
-  pub config : Config
+  pub roster : Roster
   pub peer : Peer
-  pub stands : CoreStandsFor notices capacity becomes given kept config peer
-  pub sound : IsSound config peer
+  pub stands : CoreStandsFor notices capacity becomes given kept roster peer
+  pub sound : IsSound roster peer
   pub right : All (IsMiss (tests_of meaning kept.filtered.filters) peer.part) misses

@@ -3,7 +3,7 @@
 --
 -- RTPS 2.5, 8.4.12 (reliable StatefulReader).
 use Rattle.std.specs.Prelude.{◌≡◌, ◌++◌, ℕ, suc, List, slice_get, Some}
-use Rattle.dds_base.specs.declared.config.Config.{Config}
+use Rattle.dds_protocol.specs.Roster.{Roster}
 use Rattle.dds_base.specs.declared.endpoint.Endpoint.{Endpoint}
 use Rattle.dds_machine.specs.declared.reply.Move.{Move}
 use Rattle.dds_machine.specs.declared.reply.Report.{Report}
@@ -36,34 +36,34 @@ SameRows index old new = (k : ReaderKept) → slice_get old.readers index ≡ So
     → (now : ReaderKept) × (slice_get new.readers index ≡ Some now) × (now.writers ≡ k.writers)
 
 -- for a state that the old values stand for, the place of a reader at a writer was tried again by the rules
-pub record Tried (config : Config) (peer : Peer) (writer : Endpoint) (reader : ℕ) (made : List Move)
+pub record Tried (roster : Roster) (peer : Peer) (writer : Endpoint) (reader : ℕ) (made : List Move)
     (new : PeerKept) : Type 0 where
   pub state : State
   pub goes : GoesAgain (stands_to (state_of peer) writer reader) (state_of peer) writer reader made state
-  pub stands : StandsFor new config (with_state peer state)
+  pub stands : StandsFor new roster (with_state peer state)
 
 -- the place of the reader of this index at the writer of this row was tried again, after other moves
 pub record TriesRow (old : PeerKept) (index row : ℕ) (effects : Effects) (new : PeerKept)
     (after : Effects) : Type 0 where
   pub made : List Move
   pub after_is : after.moves.items ≡ effects.moves.items ++ made
-  pub tries : (config : Config) (peer : Peer) → StandsFor old config peer → (has : HasRow old index row)
-      → Tried config peer has.name.writer (suc index) made new
+  pub tries : (roster : Roster) (peer : Peer) → StandsFor old roster peer → (has : HasRow old index row)
+      → Tried roster peer has.name.writer (suc index) made new
   pub rows : SameRows index old new
 
 -- for each state that the old values stand for, a try of the place at the row may need memory
 abbrev pub RowNeedsMemory : PeerKept → ℕ → ℕ → Type 0
 RowNeedsMemory old index row =
-    (config : Config) (peer : Peer) → StandsFor old config peer → (has : HasRow old index row)
+    (roster : Roster) (peer : Peer) → StandsFor old roster peer → (has : HasRow old index row)
     → MayGoAgain (state_of peer) has.name.writer (suc index)
 
 -- for a state that the old values stand for, the places of a reader were tried again by the rules
-pub record Resumed (config : Config) (peer : Peer) (reader : ℕ) (report : Report) (new : PeerKept) : Type 0 where
+pub record Resumed (roster : Roster) (peer : Peer) (reader : ℕ) (report : Report) (new : PeerKept) : Type 0 where
   pub state : State
   pub resumes : Resumes reader (state_of peer) report state
-  pub stands : StandsFor new config (with_state peer state)
+  pub stands : StandsFor new roster (with_state peer state)
 
 -- the same of the reader of this index, said of each state that the old values stand for
 abbrev pub ResumesAll : PeerKept → ℕ → Report → PeerKept → Type 0
 ResumesAll old index report new =
-    (config : Config) (peer : Peer) → StandsFor old config peer → Resumed config peer (suc index) report new
+    (roster : Roster) (peer : Peer) → StandsFor old roster peer → Resumed roster peer (suc index) report new

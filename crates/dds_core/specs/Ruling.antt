@@ -2,7 +2,7 @@
 --
 -- RTPS 2.5, 8.4.7 (StatefulWriter, ReaderProxy), 8.4.10 (StatefulReader, WriterProxy).
 use Rattle.std.specs.Prelude.{◌≡◌, ℕ, List}
-use Rattle.dds_base.specs.declared.config.Config.{Config}
+use Rattle.dds_protocol.specs.Roster.{Roster}
 use Rattle.dds_protocol.specs.declared.event.Event.{Event}
 use Rattle.dds_protocol.specs.declared.event.Event.TheVariants as event
 use Rattle.dds_protocol.specs.declared.event.Output.{Output}
@@ -18,16 +18,16 @@ use Rattle.dds_machine.specs.Calls.{effect_of}
 use Rattle.dds_core.specs.Sending.{SendsFor, SendsNothing, due_at_tick}
 
 -- all that the peer knows is claimed by what was delivered to it
-abbrev pub IsSound : Config → Peer → Type 0
-IsSound config peer = IsBacked config peer.number (packets_of peer.delivered) peer.delivered (network_of peer)
+abbrev pub IsSound : Roster → Peer → Type 0
+IsSound roster peer = IsBacked roster peer.number (packets_of peer.delivered) peer.delivered (network_of peer)
 
 -- A packet that was delivered is taken up by the rules of the protocol: they say what moves, what is known then, and
 -- which messages are due; these are sent, in their order, or counted as unsent.
-pub record IsTakenByRules (config : Config) (old : Peer) (packet : List ℕ) (output : Output) (new : Peer) : Type 0 where
+pub record IsTakenByRules (roster : Roster) (old : Peer) (packet : List ℕ) (output : Output) (new : Peer) : Type 0 where
   pub report : Report
   pub reply : output.reply ≡ Reported report
   pub dues : List Due
-  pub takes : TakesPacket config old.number packet (network_of old) report dues (network_of new)
+  pub takes : TakesPacket roster old.number packet (network_of old) report dues (network_of new)
   pub sent : AreSent dues output.packets output.unsent
 
 -- where the places of a reader are tried again, the rules say what moves, and what is known then
@@ -37,10 +37,10 @@ ResumesByRules reader old reply new = Unit {0}
 
 -- what a call enters is announced; at a tick what is due then is sent; a delivery follows the rules of the protocol, and
 -- so do places that are tried again, at which nothing is sent (RTPS 2.5, 8.4.9, 8.4.12)
-abbrev pub KeepsRules : Config → Peer → Event → Output → Peer → Type 0
-KeepsRules config old (event.Call call) output new = SendsFor config old (effect_of old.part call output.reply) output
-KeepsRules config old (event.Tick now) output new =
-    AreSent (due_at_tick config old output.reply) output.packets output.unsent
-KeepsRules config old (event.Deliver packet) output new = IsTakenByRules config old packet output new
-KeepsRules config old (event.Resume reader) output new =
+abbrev pub KeepsRules : Roster → Peer → Event → Output → Peer → Type 0
+KeepsRules roster old (event.Call call) output new = SendsFor roster old (effect_of old.part call output.reply) output
+KeepsRules roster old (event.Tick now) output new =
+    AreSent (due_at_tick roster old output.reply) output.packets output.unsent
+KeepsRules roster old (event.Deliver packet) output new = IsTakenByRules roster old packet output new
+KeepsRules roster old (event.Resume reader) output new =
     SendsNothing output × ResumesByRules reader (network_of old) output.reply (network_of new)

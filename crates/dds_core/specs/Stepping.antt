@@ -1,7 +1,7 @@
 -- What an event does to a peer. Inner functions alone cite this: nothing here has to be believed.
 --
 -- RTPS 2.5, 8.4.7 (StatefulWriter), 8.4.10 (StatefulReader): the machine has them without packets.
-use Rattle.dds_base.specs.declared.config.Config.{Config}
+use Rattle.dds_protocol.specs.Roster.{Roster}
 use Rattle.dds_protocol.specs.declared.event.Event.{Event}
 use Rattle.dds_protocol.specs.declared.event.Event.TheVariants as event
 use Rattle.dds_protocol.specs.declared.event.Output.{Output}
@@ -18,8 +18,8 @@ use Rattle.dds_core.specs.Sending.{SendsFor, due_at_tick}
 -- for each state that the old values stand for, the event is a step by these filters to one that the new values stand
 -- for
 abbrev pub StepsBy : Tests → PeerKept → Event → Output → PeerKept → Type 0
-StepsBy tests old event output new = (config : Config) (peer : Peer) → StandsFor old config peer
-    → (after : Peer) × PeerStep config tests peer event output after × StandsFor new config after
+StepsBy tests old event output new = (roster : Roster) (peer : Peer) → StandsFor old roster peer
+    → (after : Peer) × PeerStep roster tests peer event output after × StandsFor new roster after
 
 -- the same of an event in which no filter has a say
 abbrev pub Steps : PeerKept → Event → Output → PeerKept → Type 0
@@ -29,11 +29,11 @@ Steps old event output new = StepsBy no_filters old event output new
 -- where places are tried again, is said by the rules of the protocol
 abbrev pub Sends : PeerKept → Event → Output → Type 0
 Sends old (event.Call call) output =
-    (config : Config) (peer : Peer) → StandsFor old config peer
-    → SendsFor config peer (effect_of peer.part call output.reply) output
+    (roster : Roster) (peer : Peer) → StandsFor old roster peer
+    → SendsFor roster peer (effect_of peer.part call output.reply) output
 Sends old (event.Tick now) output =
-    (config : Config) (peer : Peer) → StandsFor old config peer
-    → AreSent (due_at_tick config peer output.reply) output.packets output.unsent
+    (roster : Roster) (peer : Peer) → StandsFor old roster peer
+    → AreSent (due_at_tick roster peer output.reply) output.packets output.unsent
 Sends old (event.Deliver packet) output = Unit {0}
 Sends old (event.Resume reader) output = Unit {0}
 
@@ -41,9 +41,9 @@ Sends old (event.Resume reader) output = Unit {0}
 -- that the new values stand for, and of which all that is known was claimed; it follows the rules of the protocol.
 abbrev pub SoundStepsBy : Tests → PeerKept → Event → Output → PeerKept → Type 0
 SoundStepsBy tests old event output new =
-    (config : Config) (peer : Peer) → StandsFor old config peer → IsSound config peer
-    → (after : Peer) × PeerStep config tests peer event output after × StandsFor new config after × IsSound config after
-    × KeepsRules config peer event output after
+    (roster : Roster) (peer : Peer) → StandsFor old roster peer → IsSound roster peer
+    → (after : Peer) × PeerStep roster tests peer event output after × StandsFor new roster after × IsSound roster after
+    × KeepsRules roster peer event output after
 
 -- the same without filters
 abbrev pub SoundSteps : PeerKept → Event → Output → PeerKept → Type 0

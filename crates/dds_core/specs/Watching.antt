@@ -5,7 +5,7 @@
 use Rattle.std.specs.Prelude.{◌≡◌, ◌+◌, ◌<◌, ℕ, length, Bool, List, Option, Some, None, Result, Ok, Err, ◌==◌, if◌then◌else◌}
 use Rattle.dds_base.specs.declared.code.Code.{Code}
 use Rattle.dds_base.specs.declared.code.Code.TheVariants.{BadParameter, PreconditionNotMet}
-use Rattle.dds_base.specs.declared.config.Config.{Config}
+use Rattle.dds_protocol.specs.Roster.{Roster}
 use Rattle.dds_base.specs.declared.entity.Entity.{Entity}
 use Rattle.dds_base.specs.declared.selection.Scope.{Scope}
 use Rattle.dds_base.specs.Selection.{selection_in}
@@ -48,7 +48,7 @@ active_reply (Err code) = Refused code
 
 -- so it is of the part of each state that stands for what is kept
 abbrev pub Tells : PeerKept → (Part → Type 0) → Type 0
-Tells kept Is = (config : Config) (peer : Peer) → StandsFor kept config peer → Is peer.part
+Tells kept Is = (roster : Roster) (peer : Peer) → StandsFor kept roster peer → Is peer.part
 
 -- the flagged statuses of an entity
 abbrev pub TellsStatuses : PeerKept → Entity → StatusMask → Type 0

@@ -20,8 +20,8 @@ ghost use Rattle.dds_core.specs.Ruling.{IsSound};
 ghost use Rattle.dds_ends.specs.Twins.{Twins};
 ghost use Rattle.dds_machine.specs.Part.{how_of, is_attached, own_proxies, place_of};
 ghost use Rattle.dds_protocol.specs.declared.event.Event.TheVariants as event;
+ghost use Rattle.dds_protocol.specs.Roster.{Roster, roster_of};
 ghost use Rattle.dds_protocol.specs.Peer.{Peer as PeerState};
-ghost use Rattle.dds_base.specs.declared.config.Config.{Config as ConfigOf};
 
 use crate::filtered_peer::FilteredPeer;
 use crate::lent_event::LentEvent;
@@ -63,12 +63,13 @@ impl<F: Filter, L: Listener> Core<F, L> {
     /// The first of these: what `Config::check` answers; `BadParameter` where the configuration has no peer of this
     /// number; `Memory` where a growth was refused.
     pub fn open(alloc: Global, config: &Config, peer: u32) -> Result<Core<F, L>, Code>
-        // The peer stands for its opening in the configuration.
+        // The peer stands for its opening in the roster of the configuration.
         ensures opening { IfOk result
             (λ core. StandsFor L.notices L.capacity L.becomes
-            (no_listeners (opening_peer config.now peer).part) core config.now (opening_peer config.now peer)) }
+            (no_listeners (opening_peer config.now peer).part) core (roster_of config.now)
+            (opening_peer config.now peer)) }
         // All that is known of it there was claimed.
-        ensures known { OnOk result (IsSound config.now (opening_peer config.now peer)) }
+        ensures known { OnOk result (IsSound (roster_of config.now) (opening_peer config.now peer)) }
         // Both are so in each roster in which the peers of the configuration come first.
         ensures roster { IfOk result (λ core. InRosters config.now
             (λ roster. StandsFor L.notices L.capacity L.becomes
@@ -315,8 +316,8 @@ impl<F: Filter, L: Listener> Core<F, L> {
     /// DDS 1.4, 2.2.2.1 (Entity: get_listener).
     pub fn slot(&self, entity: Entity) -> Option<(StatusMask, usize)>
         // So it is in each state that the peer stands for.
-        ensures slot { (given : ByEntity L) (config : ConfigOf) (peer : PeerState)
-            → StandsFor L.notices L.capacity L.becomes given self.now config peer
+        ensures slot { (given : ByEntity L) (roster : Roster) (peer : PeerState)
+            → StandsFor L.notices L.capacity L.becomes given self.now roster peer
             → result ≡ shown (at_entity peer.part.dds.listeners entity) }
     {
         self.listeners.slot(entity)
@@ -327,8 +328,8 @@ impl<F: Filter, L: Listener> Core<F, L> {
     /// DDS 1.4, 2.2.2.1 (WaitSet, wait).
     pub fn in_use(&self) -> u32
         // So it is in each state that the peer stands for.
-        ensures used { (config : ConfigOf) (peer : PeerState)
-            → PeerStandsFor self.now.filtered.peer config peer
+        ensures used { (roster : Roster) (peer : PeerState)
+            → PeerStandsFor self.now.filtered.peer roster peer
             → result ≡ uses_in peer.part.dds.watch.wait_sets }
     {
         self.filtered.in_use()
@@ -339,8 +340,8 @@ impl<F: Filter, L: Listener> Core<F, L> {
     /// DDS 1.4, 2.2.2.1 (WaitSet, wait).
     pub fn is_in_use(&self, number: u32) -> bool
         // So it is in each state that the peer stands for.
-        ensures used { (config : ConfigOf) (peer : PeerState)
-            → PeerStandsFor self.now.filtered.peer config peer
+        ensures used { (roster : Roster) (peer : PeerState)
+            → PeerStandsFor self.now.filtered.peer roster peer
             → result ≡ is_used (at_number peer.part.dds.watch.wait_sets number) }
     {
         self.filtered.is_in_use(number)
@@ -349,8 +350,8 @@ impl<F: Filter, L: Listener> Core<F, L> {
     /// The peer's moment: 0, or that of the last tick that was done.
     pub fn moment(&self) -> Moment
         // It is the moment of each state that the peer stands for.
-        ensures moment { (config : ConfigOf) (peer : PeerState)
-            → PeerStandsFor self.now.filtered.peer config peer
+        ensures moment { (roster : Roster) (peer : PeerState)
+            → PeerStandsFor self.now.filtered.peer roster peer
             → result ≡ peer.part.dds.moment }
     {
         self.filtered.moment()
@@ -361,12 +362,12 @@ impl<F: Filter, L: Listener> Core<F, L> {
     ///
     /// RTPS 2.5, 8.4.7 (StatefulWriter: matched_readers; ReaderProxy: unacked_changes).
     pub fn pair(&self, writer: u8, reader: Endpoint) -> Option<Pair>
-        // They are matched exactly if a pair is found, and the ids are those of the configuration; the reader is behind
+        // They are matched exactly if a pair is found, and the ids are those of the roster; the reader is behind
         // exactly where it has not acknowledged some change, and the last number is how many changes the writer has
         // made.
-        ensures pair { (config : ConfigOf) (peer : PeerState)
-            → PeerStandsFor self.now.filtered.peer config peer
-            → IsPair config peer writer reader result }
+        ensures pair { (roster : Roster) (peer : PeerState)
+            → PeerStandsFor self.now.filtered.peer roster peer
+            → IsPair roster peer writer reader result }
     {
         self.filtered.pair(writer, reader)
     }
@@ -378,8 +379,8 @@ impl<F: Filter, L: Listener> Core<F, L> {
     pub fn place(&self, reader: u8, writer: Endpoint) -> Option<Sn>
         // It is the place in each state that the peer stands for, and there is one exactly if the reader knows the
         // writer.
-        ensures place { (config : ConfigOf) (peer : PeerState)
-            → PeerStandsFor self.now.filtered.peer config peer
+        ensures place { (roster : Roster) (peer : PeerState)
+            → PeerStandsFor self.now.filtered.peer roster peer
             → result ≡ place_of (own_proxies peer.part reader) writer }
     {
         self.filtered.place(reader, writer)
@@ -390,8 +391,8 @@ impl<F: Filter, L: Listener> Core<F, L> {
     /// RTPS 2.5, 8.4.10 (StatefulReader: matched_writers).
     pub fn is_matched(&self, reader: u8, writer: Endpoint) -> bool
         // It is so exactly if it is in each state that the peer stands for.
-        ensures matched { (config : ConfigOf) (peer : PeerState)
-            → PeerStandsFor self.now.filtered.peer config peer
+        ensures matched { (roster : Roster) (peer : PeerState)
+            → PeerStandsFor self.now.filtered.peer roster peer
             → result ≡ is_attached (how_of (own_proxies peer.part reader) writer) }
     {
         self.filtered.is_matched(reader, writer)
@@ -403,9 +404,9 @@ impl<F: Filter, L: Listener> Core<F, L> {
     /// RTPS 2.5, 8.3.4 (the message receiver), 8.4.10 (StatefulReader, WriterProxy).
     pub fn observe(&self, datagram: &[u8]) -> Observed
         // So much is old, or to nobody, in each state that the peer stands for; of bytes that are no message nothing.
-        ensures observes { (config : ConfigOf) (peer : PeerState)
-            → PeerStandsFor self.now.filtered.peer config peer
-            → Observes config peer None datagram.now result }
+        ensures observes { (roster : Roster) (peer : PeerState)
+            → PeerStandsFor self.now.filtered.peer roster peer
+            → Observes roster peer None datagram.now result }
     {
         self.filtered.observe(None, datagram)
     }
@@ -415,9 +416,9 @@ impl<F: Filter, L: Listener> Core<F, L> {
     /// RTPS 2.5, 8.3.4 (the message receiver), 8.4.10 (StatefulReader, WriterProxy).
     pub fn observe_writer(&self, writer: Endpoint, datagram: &[u8]) -> Observed
         // So much of that writer is old, in each state that the peer stands for; of bytes that are no message nothing.
-        ensures observes { (config : ConfigOf) (peer : PeerState)
-            → PeerStandsFor self.now.filtered.peer config peer
-            → Observes config peer (Some writer) datagram.now result }
+        ensures observes { (roster : Roster) (peer : PeerState)
+            → PeerStandsFor self.now.filtered.peer roster peer
+            → Observes roster peer (Some writer) datagram.now result }
     {
         self.filtered.observe(Some(writer), datagram)
     }

@@ -9,8 +9,8 @@ ghost use Rattle.dds_conditions.specs.Filtered.{tests_of};
 ghost use Rattle.dds_conditions.specs.Watched.{is_used, uses_in};
 ghost use Rattle.dds_machine.specs.Noticing.{at_end};
 ghost use Rattle.dds_machine.specs.Part.{Part, how_of, is_attached, own_proxies, place_of};
+ghost use Rattle.dds_protocol.specs.Roster.{Roster, roster_of};
 ghost use Rattle.dds_protocol.specs.Peer.{Peer as PeerState};
-ghost use Rattle.dds_base.specs.declared.config.Config.{Config as ConfigOf};
 ghost use Rattle.dds_core.specs.Filtering.{StandsFor};
 ghost use Rattle.dds_core.specs.FilteredSteps.{Adds, RefusesFilter, Steps};
 ghost use Rattle.dds_core.specs.Lending.{event_of};
@@ -61,9 +61,9 @@ impl<F: Filter> FilteredPeer<F> {
     /// The first of these: what `Config::check` answers; `BadParameter` where the configuration has no peer of this
     /// number; `Memory` where a growth was refused.
     pub fn open(alloc: Global, config: &Config, peer: u32) -> Result<FilteredPeer<F>, Code>
-        // The peer stands for its opening in the configuration.
+        // The peer stands for its opening in the roster of the configuration.
         ensures opening { IfOk result
-            (λ core. StandsFor core config.now (opening_peer config.now peer)) }
+            (λ core. StandsFor core (roster_of config.now) (opening_peer config.now peer)) }
         // So it does in each roster in which the peers of the configuration come first.
         ensures roster { IfOk result (λ core. InRosters config.now
             (λ roster. StandsFor core roster (opening_peer config.now peer))) }
@@ -215,8 +215,8 @@ impl<F: Filter> FilteredPeer<F> {
     /// The peer's moment: 0, or that of the last tick that was done.
     pub fn moment(&self) -> Moment
         // It is the moment of each state that the peer stands for.
-        ensures moment { (config : ConfigOf) (peer : PeerState)
-            → PeerStandsFor self.now.peer config peer
+        ensures moment { (roster : Roster) (peer : PeerState)
+            → PeerStandsFor self.now.peer roster peer
             → result ≡ peer.part.dds.moment }
     {
         self.peer.moment()
@@ -227,12 +227,12 @@ impl<F: Filter> FilteredPeer<F> {
     ///
     /// RTPS 2.5, 8.4.7 (StatefulWriter: matched_readers; ReaderProxy: unacked_changes).
     pub fn pair(&self, writer: u8, reader: Endpoint) -> Option<Pair>
-        // They are matched exactly if a pair is found, and the ids are those of the configuration; the reader is behind
+        // They are matched exactly if a pair is found, and the ids are those of the roster; the reader is behind
         // exactly where it has not acknowledged some change, and the last number is how many changes the writer has
         // made.
-        ensures pair { (config : ConfigOf) (peer : PeerState)
-            → PeerStandsFor self.now.peer config peer
-            → IsPair config peer writer reader result }
+        ensures pair { (roster : Roster) (peer : PeerState)
+            → PeerStandsFor self.now.peer roster peer
+            → IsPair roster peer writer reader result }
     {
         self.peer.pair(writer, reader)
     }
@@ -244,8 +244,8 @@ impl<F: Filter> FilteredPeer<F> {
     pub fn place(&self, reader: u8, writer: Endpoint) -> Option<Sn>
         // It is the place in each state that the peer stands for, and there is one exactly if the reader knows the
         // writer.
-        ensures place { (config : ConfigOf) (peer : PeerState)
-            → PeerStandsFor self.now.peer config peer
+        ensures place { (roster : Roster) (peer : PeerState)
+            → PeerStandsFor self.now.peer roster peer
             → result ≡ place_of (own_proxies peer.part reader) writer }
     {
         self.peer.place(reader, writer)
@@ -256,8 +256,8 @@ impl<F: Filter> FilteredPeer<F> {
     /// RTPS 2.5, 8.4.10 (StatefulReader: matched_writers).
     pub fn is_matched(&self, reader: u8, writer: Endpoint) -> bool
         // It is so exactly if it is in each state that the peer stands for.
-        ensures matched { (config : ConfigOf) (peer : PeerState)
-            → PeerStandsFor self.now.peer config peer
+        ensures matched { (roster : Roster) (peer : PeerState)
+            → PeerStandsFor self.now.peer roster peer
             → result ≡ is_attached (how_of (own_proxies peer.part reader) writer) }
     {
         self.peer.is_matched(reader, writer)
@@ -269,9 +269,9 @@ impl<F: Filter> FilteredPeer<F> {
     /// RTPS 2.5, 8.3.4 (the message receiver), 8.4.10 (StatefulReader, WriterProxy).
     pub fn observe(&self, of: Option<Endpoint>, datagram: &[u8]) -> Observed
         // So much is old, or to nobody, in each state that the peer stands for; of bytes that are no message nothing.
-        ensures observes { (config : ConfigOf) (peer : PeerState)
-            → PeerStandsFor self.now.peer config peer
-            → Observes config peer of datagram.now result }
+        ensures observes { (roster : Roster) (peer : PeerState)
+            → PeerStandsFor self.now.peer roster peer
+            → Observes roster peer of datagram.now result }
     {
         self.peer.observe(of, datagram)
     }

@@ -4,7 +4,6 @@
 //! WaitSets", says why it is a type of its own.
 
 ghost use Rattle.std.specs.Prelude.{◌≡◌, [], None, IfErr, IfOk, OnErr, OnOk};
-ghost use Rattle.dds_base.specs.declared.config.Config.{Config as ConfigOf};
 ghost use Rattle.dds_base.specs.Number.{at_number};
 ghost use Rattle.dds_base.specs.Refusal.{Refuses};
 ghost use Rattle.dds_conditions.specs.Filtered.{tests_of};
@@ -15,6 +14,7 @@ ghost use Rattle.dds_core.specs.Ruling.{IsSound};
 ghost use Rattle.dds_ends.specs.Sending.{AreMessages};
 ghost use Rattle.dds_core.specs.Standing.{StandsFor as PeerStandsFor};
 ghost use Rattle.dds_protocol.specs.declared.event.Event.TheVariants as event;
+ghost use Rattle.dds_protocol.specs.Roster.{Roster, roster_of};
 ghost use Rattle.dds_protocol.specs.Peer.{Peer as PeerState};
 
 use crate::application::Core;
@@ -60,12 +60,13 @@ impl<F: Filter, L: Listener> Mindful<F, L> {
     /// The first of these: what `Config::check` answers; `BadParameter` where the configuration has no peer of this
     /// number; `Memory` where a growth was refused.
     pub fn open(alloc: Global, config: &Config, peer: u32) -> Result<Mindful<F, L>, Code>
-        // The peer stands for its opening in the configuration.
+        // The peer stands for its opening in the roster of the configuration.
         ensures opening { IfOk result
             (λ core. StandsFor L.notices L.capacity L.becomes
-            (no_listeners (opening_peer config.now peer).part) core config.now (opening_peer config.now peer)) }
+            (no_listeners (opening_peer config.now peer).part) core (roster_of config.now)
+            (opening_peer config.now peer)) }
         // All that is known of it there was claimed.
-        ensures known { OnOk result (IsSound config.now (opening_peer config.now peer)) }
+        ensures known { OnOk result (IsSound (roster_of config.now) (opening_peer config.now peer)) }
         // Both are so in each roster in which the peers of the configuration come first.
         ensures roster { IfOk result (λ core. InRosters config.now
             (λ roster. StandsFor L.notices L.capacity L.becomes
@@ -224,8 +225,8 @@ impl<F: Filter, L: Listener> Mindful<F, L> {
     /// DDS 1.4, 2.2.2.1 (WaitSet, wait).
     pub fn in_use(&self) -> u32
         // So it is in each state that the peer stands for.
-        ensures used { (config : ConfigOf) (peer : PeerState)
-            → PeerStandsFor self.now.filtered.peer config peer
+        ensures used { (roster : Roster) (peer : PeerState)
+            → PeerStandsFor self.now.filtered.peer roster peer
             → result ≡ uses_in peer.part.dds.watch.wait_sets }
     {
         self.core.in_use()
@@ -236,8 +237,8 @@ impl<F: Filter, L: Listener> Mindful<F, L> {
     /// DDS 1.4, 2.2.2.1 (WaitSet, wait).
     pub fn is_in_use(&self, number: u32) -> bool
         // So it is in each state that the peer stands for.
-        ensures used { (config : ConfigOf) (peer : PeerState)
-            → PeerStandsFor self.now.filtered.peer config peer
+        ensures used { (roster : Roster) (peer : PeerState)
+            → PeerStandsFor self.now.filtered.peer roster peer
             → result ≡ is_used (at_number peer.part.dds.watch.wait_sets number) }
     {
         self.core.is_in_use(number)

@@ -4,9 +4,9 @@
 //! WriterProxy).
 
 ghost use Rattle.std.specs.Prelude.{◌≡◌, ◌+◌, ◌^◌, ◌≤◌, true, length, IfNone, IfSome};
-ghost use Rattle.dds_base.specs.declared.config.Config.{Config};
 ghost use Rattle.rtps_wire.specs.declared.acknack.AckNack.{AckNack as AckNackOf};
 ghost use Rattle.rtps_wire.specs.declared.submessage.Submessage.TheVariants as submessage_of;
+ghost use Rattle.dds_protocol.specs.Roster.{Roster};
 ghost use Rattle.dds_protocol.specs.Claims.{is_for};
 ghost use Rattle.dds_protocol.specs.Peer.{Peer as PeerState};
 ghost use Rattle.dds_core.specs.Observing.{Observes, Sums};
@@ -301,8 +301,8 @@ impl Peer {
     /// RTPS 2.5, 8.3.4 (the message receiver), 8.4.10 (StatefulReader, WriterProxy).
     pub fn observe(&self, of: Option<Endpoint>, datagram: &[u8]) -> Observed
         // So much is old, or to nobody, in each state that the peer stands for; of bytes that are no message nothing.
-        ensures observes { (config : Config) (peer : PeerState) → StandsFor self.now config peer
-            → Observes config peer of datagram.now result }
+        ensures observes { (roster : Roster) (peer : PeerState) → StandsFor self.now roster peer
+            → Observes roster peer of datagram.now result }
     {
         match begin_message(datagram) {
             Some((source, body)) => self.observe_body(of, source, body),

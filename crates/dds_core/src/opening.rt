@@ -9,6 +9,7 @@ ghost use Rattle.dds_base.specs.Refusal.{Refuses};
 ghost use Rattle.dds_core.specs.Opening.{InRosters, core_refusal, opening_peer};
 ghost use Rattle.dds_core.specs.OpeningEnds.{OpensEach, OpensCore};
 ghost use Rattle.dds_core.specs.Standing.{StandsFor};
+ghost use Rattle.dds_protocol.specs.Roster.{roster_of};
 
 use crate::peer::Peer;
 use crate::spare_lists::SpareLists;
@@ -74,9 +75,9 @@ impl Peer {
     /// The first of these: what `Config::check` answers; `BadParameter` where the configuration has no peer of this
     /// number; `Memory` where a growth was refused.
     pub fn open(alloc: Global, config: &Config, peer: u32) -> Result<Peer, Code>
-        // The peer stands for its opening in the configuration.
+        // The peer stands for its opening in the roster of the configuration.
         ensures opening { IfOk result
-            (λ core. StandsFor core config.now (opening_peer config.now peer)) }
+            (λ core. StandsFor core (roster_of config.now) (opening_peer config.now peer)) }
         // So it does in each roster in which the peers of the configuration come first.
         ensures roster { IfOk result (λ core. InRosters config.now
             (λ roster. StandsFor core roster (opening_peer config.now peer))) }

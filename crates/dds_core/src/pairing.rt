@@ -4,8 +4,8 @@
 //! RTPS 2.5, 8.4.7 (StatefulWriter, matched_readers), 8.4.10 (StatefulReader, matched_writers).
 
 ghost use Rattle.std.specs.Prelude.{◌≡◌, Some};
-ghost use Rattle.dds_base.specs.declared.config.Config.{Config};
 ghost use Rattle.dds_machine.specs.Part.{how_of, is_attached, own_proxies, place_of};
+ghost use Rattle.dds_protocol.specs.Roster.{Roster};
 ghost use Rattle.dds_protocol.specs.Peer.{Peer as PeerState};
 ghost use Rattle.dds_core.specs.Pairs.{IsPair};
 ghost use Rattle.dds_core.specs.Standing.{StandsFor};
@@ -31,7 +31,7 @@ impl Peer {
     /// The peer's moment: 0, or that of the last tick that was done.
     pub fn moment(&self) -> Moment
         // It is the moment of each state that the peer stands for.
-        ensures moment { (config : Config) (peer : PeerState) → StandsFor self.now config peer
+        ensures moment { (roster : Roster) (peer : PeerState) → StandsFor self.now roster peer
             → result ≡ peer.part.dds.moment }
     {
         self.moment
@@ -42,11 +42,11 @@ impl Peer {
     ///
     /// RTPS 2.5, 8.4.7 (StatefulWriter: matched_readers; ReaderProxy: unacked_changes).
     pub fn pair(&self, writer: u8, reader: Endpoint) -> Option<Pair>
-        // They are matched exactly if a pair is found, and the ids are those of the configuration; the reader is behind
+        // They are matched exactly if a pair is found, and the ids are those of the roster; the reader is behind
         // exactly where it has not acknowledged some change, and the last number is how many changes the writer has
         // made.
-        ensures pair { (config : Config) (peer : PeerState) → StandsFor self.now config peer
-            → IsPair config peer writer reader result }
+        ensures pair { (roster : Roster) (peer : PeerState) → StandsFor self.now roster peer
+            → IsPair roster peer writer reader result }
     {
         let Some(index) = index_of(writer, self.writers.len()) else {
             return None;
@@ -70,7 +70,7 @@ impl Peer {
     pub fn place(&self, reader: u8, writer: Endpoint) -> Option<Sn>
         // It is the place in each state that the peer stands for, and there is one exactly if the reader knows the
         // writer.
-        ensures place { (config : Config) (peer : PeerState) → StandsFor self.now config peer
+        ensures place { (roster : Roster) (peer : PeerState) → StandsFor self.now roster peer
             → result ≡ place_of (own_proxies peer.part reader) writer }
     {
         let Some(index) = index_of(reader, self.readers.len()) else {
@@ -88,7 +88,7 @@ impl Peer {
     /// RTPS 2.5, 8.4.10 (StatefulReader: matched_writers).
     pub fn is_matched(&self, reader: u8, writer: Endpoint) -> bool
         // It is so exactly if it is in each state that the peer stands for.
-        ensures matched { (config : Config) (peer : PeerState) → StandsFor self.now config peer
+        ensures matched { (roster : Roster) (peer : PeerState) → StandsFor self.now roster peer
             → result ≡ is_attached (how_of (own_proxies peer.part reader) writer) }
     {
         let Some(index) = index_of(reader, self.readers.len()) else {

@@ -2,6 +2,7 @@
 use Rattle.std.proofs.Common.{◌≡◌, ℕ, zero, suc, ◌+◌, ◌<◌, ◌==◌, Bool, true, false, cond, not, ◌||◌, List, [], ◌∷◌, ◌++◌, Some, Contains, map, slice_get, refl, ap, ◌∙◌, subst, arith, ⊎_elim, eqb-true, eq-eqb}
 use Rattle.std.proofs.lemmas.Option.{same_Some}
 use Rattle.std.specs.List.{list_any}
+use Rattle.dds_base.specs.declared.config.Config.{Config}
 use Rattle.dds_base.specs.declared.config.PeerConfig.{PeerConfig}
 use Rattle.dds_base.specs.declared.config.ReaderConfig.{ReaderConfig}
 use Rattle.dds_base.specs.Matched.{any_reader, of_ends_in, same_topic}
@@ -9,6 +10,8 @@ use Rattle.dds_machine.specs.Opening.{matched_readers}
 use Rattle.dds_base.specs.declared.endpoint.Endpoint.{Endpoint}
 use Rattle.dds_machine.specs.Part.{peers_of}
 use Rattle.dds_protocol.proofs.Composed.{front_or_rest}
+use Rattle.dds_protocol.specs.Roster.{roster_of}
+use Rattle.dds_protocol.proofs.Listed.{prefix_is}
 use Rattle.dds_protocol.proofs.PeersOf.{has, without}
 use Rattle.dds_ends.specs.declared.matching.Destination.{Destination}
 use Rattle.dds_ends.specs.Matching.{has_reader, destinations}
@@ -106,21 +109,20 @@ peers_are topic n (p ∷ ps) =
     (destinations topic (n + 1) ps))
 
 -- a destination is a peer of the configuration
-
-peers_from : (all : List PeerConfig) (topic n : ℕ) (ps : List PeerConfig) → IsRest all n ps → (k : ℕ) (d : Destination)
-    → slice_get (destinations topic n ps) k ≡ Some d → IsPeer all d
-peers_from all topic n [] rest k d at = absurd cc
-peers_from all topic n (p ∷ ps) rest k d at =
+peers_from : (config : Config) (topic n : ℕ) (ps : List PeerConfig) → IsRest config.peers n ps → (k : ℕ)
+    (d : Destination) → slice_get (destinations topic n ps) k ≡ Some d → IsPeer (roster_of config) d
+peers_from config topic n [] rest k d at = absurd cc
+peers_from config topic n (p ∷ ps) rest k d at =
     ⊎_elim
-    (λ f. subst (λ (x : Destination). IsPeer all x) f.1
-    (record { peer = p; at = rest_first all n p ps rest; prefix = refl }))
-    (λ f. peers_from all topic (n + 1) ps (rest_later all n p ps rest) f.0 d f.1)
+    (λ f. subst (λ (x : Destination). IsPeer (roster_of config) x) f.1
+    (prefix_is config n p (rest_first config.peers n p ps rest)))
+    (λ f. peers_from config topic (n + 1) ps (rest_later config.peers n p ps rest) f.0 d f.1)
     (cond_get (has_reader topic p.readers) (record { peer = n; prefix = p.prefix })
     (destinations topic (n + 1) ps) k d at)
 
-pub is_peer : (peers : List PeerConfig) (topic k : ℕ) (d : Destination)
-    → slice_get (destinations topic 1 peers) k ≡ Some d → IsPeer peers d
-is_peer peers topic k d at = peers_from peers topic 1 peers (rest_whole peers) k d at
+pub is_peer : (config : Config) (topic k : ℕ) (d : Destination)
+    → slice_get (destinations topic 1 config.peers) k ≡ Some d → IsPeer (roster_of config) d
+is_peer config topic k d at = peers_from config topic 1 config.peers (rest_whole config.peers) k d at
 
 -- where an element stands
 pub at_some : {X : Type 0} (xs : List X) (x : X) → Contains xs x → (k : ℕ) × (slice_get xs k ≡ Some x)

@@ -1,18 +1,17 @@
 -- How many of the readers that a writer knows, or is matched with, are at a peer.
-use Rattle.std.proofs.Common.{◌≡◌, ℕ, zero, suc, ◌+◌, ◌<◌, ◌≤◌, ◌==◌, Bool, true, false, cond, ◌&&◌, ◌||◌, List, [], ◌∷◌, ◌++◌, None, map, length, refl, ap, sym, ◌∙◌, subst, arith, eqb-true}
-use Rattle.std.specs.Prelude.{if◌then◌else◌, nat_le, nat_lt}
+use Rattle.std.proofs.Common.{◌≡◌, ℕ, suc, ◌+◌, ◌<◌, ◌≤◌, ◌==◌, Bool, true, false, cond, ◌&&◌, ◌||◌, List, [], ◌∷◌, ◌++◌, None, map, length, refl, ap, arith, eqb-true}
+use Rattle.std.specs.Prelude.{if◌then◌else◌, nat_lt}
 use Rattle.std.specs.List.{count_by, list_any}
 use Rattle.std.proofs.lemmas.Bool.{or_parts}
 use Rattle.std.proofs.lemmas.Bool.Decides.{nat_tests}
 use Rattle.std.proofs.lemmas.List.Sums.{sum_by-append, sum_by-cons}
-use Rattle.dds_base.specs.declared.config.Config.{Config}
 use Rattle.dds_base.specs.declared.config.PeerConfig.{PeerConfig}
 use Rattle.dds_base.specs.declared.config.ReaderConfig.{ReaderConfig}
 use Rattle.dds_base.specs.declared.endpoint.Endpoint.{Endpoint}
 use Rattle.dds_base.specs.Checked.{check_refusal, is_bad_peer}
 use Rattle.dds_base.specs.Matched.{any_reader, of_ends_in, of_matched_readers, same_topic}
 use Rattle.dds_protocol.specs.Dues.{AreFew}
-use Rattle.dds_protocol.proofs.Rosters.{configs_are_rosters}
+use Rattle.dds_protocol.proofs.Rosters.{configs_are_good}
 use Rattle.dds_ends.specs.declared.matching.ReaderName.{ReaderName}
 use Rattle.dds_ends.specs.Beating.{names_at}
 use Rattle.dds_ends.specs.EndNames.{all_names, reader_name}
@@ -126,6 +125,5 @@ few_from topic i (p ∷ ps) good peer =
 pub few_opened : (topic : ℕ) (peers : List PeerConfig) → check_refusal peers ≡ None
     → AreFew (readers_of (all_names topic peers))
 few_opened topic peers fits =
-    let config : Config = record { peers = peers } in
-    let roster = configs_are_rosters config fits in
-    few_names (all_names topic peers) (λ peer. (few_from topic 1 peers roster.each peer).0)
+    let good = configs_are_good (record { peers = peers }) fits in
+    few_names (all_names topic peers) (λ peer. (few_from topic 1 peers good.each peer).0)

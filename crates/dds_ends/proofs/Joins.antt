@@ -6,7 +6,6 @@ use Rattle.std.specs.Option.{option_map_or}
 use Rattle.std.proofs.lemmas.List.{length-map, map-append}
 use Rattle.std.proofs.lemmas.List.Elements.{All-push}
 use Rattle.std.proofs.lemmas.Option.{same_Some}
-use Rattle.dds_base.specs.declared.config.PeerConfig.{PeerConfig}
 use Rattle.dds_base.specs.Written.{changes_of}
 use Rattle.rtps_writer.specs.Standing.{Kept, StandsFor as RtpsStandsFor, reader_count}
 use Rattle.rtps_writer.specs.WriterState.{WriterState, joined as rtps_joined}
@@ -15,6 +14,7 @@ use Rattle.dds_machine.specs.Matching.{is_matched, joined, knows_reliable, match
 use Rattle.dds_machine.specs.Part.{Matches, ReaderProxy, TopicReader, Writer, peers_of, row_of, same_endpoint}
 use Rattle.dds_machine.proofs.Tables.{same_is}
 use Rattle.dds_protocol.specs.Contact.{Contact}
+use Rattle.dds_protocol.specs.Roster.{Roster}
 use Rattle.dds_protocol.proofs.InOrder.{same_self}
 use Rattle.dds_ends.specs.declared.matching.Destination.{Destination}
 use Rattle.dds_ends.specs.declared.matching.LastCount.{LastCount}
@@ -348,19 +348,17 @@ one_of ds d x k at = by (list_any (λ (y : Destination). y.peer == d.peer) ds) a
     by false h = ⊎_elim (λ f. inl (f.0, f.1)) (λ f. inr (alone f.0 f.1)) (append_get ds (d ∷ []) k x h)
 
 -- whom it is matched with is known as it was, and the new one too
-pub ends_join : (peers : List PeerConfig) (topic : ℕ) (matched readers names : List ReaderName)
+pub ends_join : (roster : Roster) (writer : Endpoint) (matched readers names : List ReaderName)
     (to : List Destination) (name : ReaderName) (is_reliable : Bool)
-    → names ≡ (if is_reliable then readers ++ name ∷ [] else readers) → IsNamedSo peers topic name is_reliable
-    → AreMatchedNow peers topic matched to readers
-    → AreMatchedNow peers topic (matched ++ name ∷ []) (with_peer to (peer_of name)) names
-ends_join peers topic matched readers names to name is_reliable are is ends = record {
+    → names ≡ (if is_reliable then readers ++ name ∷ [] else readers) → IsNamedSo roster writer name is_reliable
+    → AreMatchedNow roster writer matched to readers
+    → AreMatchedNow roster writer (matched ++ name ∷ []) (with_peer to (peer_of name)) names
+ends_join roster writer matched readers names to name is_reliable are is ends = record {
   readers = there;
   sent_to = peers_more matched name to ends.sent_to;
   prefixes = λ k d at.
       ⊎_elim (λ f. ends.prefixes f.0 d f.1)
-      (λ e. let n = one is_reliable is in
-      subst (λ (x : Destination). IsPeer peers x) e
-      (record { peer = n.is.peer; at = n.is.at_peer; prefix = n.same_prefix }))
+      (λ e. subst (λ (x : Destination). IsPeer roster x) e (one is_reliable is).is.same_prefix)
       (one_of to (peer_of name) d k at);
   named = λ k n at. rows is_reliable is k n (subst (λ (ns : List ReaderName). slice_get ns k ≡ Some n) are at);
 }
@@ -369,21 +367,21 @@ ends_join peers topic matched readers names to name is_reliable are is ends = re
     alone zero n at = same_Some name n at
     alone (suc k) n at = absurd cc
 
-    one : (b : Bool) → IsNamedSo peers topic name b → IsNameOf peers topic name
+    one : (b : Bool) → IsNamedSo roster writer name b → IsNameOf roster writer name
     one true h = h.name_is
     one false h = h
 
-    there : (k : ℕ) (n : ReaderName) → slice_get (matched ++ name ∷ []) k ≡ Some n → IsNameOf peers topic n
+    there : (k : ℕ) (n : ReaderName) → slice_get (matched ++ name ∷ []) k ≡ Some n → IsNameOf roster writer n
     there k n at =
         ⊎_elim (λ f. ends.readers f.0 n f.1)
-        (λ f. subst (λ (x : ReaderName). IsNameOf peers topic x) (alone f.0 n f.1) (one is_reliable is))
+        (λ f. subst (λ (x : ReaderName). IsNameOf roster writer x) (alone f.0 n f.1) (one is_reliable is))
         (append_get matched (name ∷ []) k n at)
 
-    rows : (b : Bool) → IsNamedSo peers topic name b → (k : ℕ) (n : ReaderName)
-        → slice_get (if b then readers ++ name ∷ [] else readers) k ≡ Some n → IsReliableName peers topic n
+    rows : (b : Bool) → IsNamedSo roster writer name b → (k : ℕ) (n : ReaderName)
+        → slice_get (if b then readers ++ name ∷ [] else readers) k ≡ Some n → IsReliableName roster writer n
     rows true h k n at =
         ⊎_elim (λ f. ends.named f.0 n f.1)
-        (λ f. subst (λ (x : ReaderName). IsReliableName peers topic x) (alone f.0 n f.1) h)
+        (λ f. subst (λ (x : ReaderName). IsReliableName roster writer x) (alone f.0 n f.1) h)
         (append_get readers (name ∷ []) k n at)
     rows false h k n at = ends.named k n at
 
@@ -545,9 +543,9 @@ joins_at kept reader greeted k readers counts matches writer may rows places mak
       (λ m h. subst (λ (e : Endpoint). CountsFor matches (match_made m e)) (sym found.0) (makes m h))
       w met still (none w answered s) (ap (λ (c : Contact). c.asks) here)
       (ap (λ (c : Contact). c.silent) here ∙ ap (λ (b : Bool). greeted && b) (reliable w answered s))));
-  ends = λ peers topic is ends.
-      ends_join peers topic kept.matched kept.readers readers kept.destinations k.name k.is_reliable rows
-      (known_so peers topic k (is found.2.0 k found.2.1)) ends;
+  ends = λ roster own is ends.
+      ends_join roster own kept.matched kept.readers readers kept.destinations k.name k.is_reliable rows
+      (known_so roster own k (is found.2.0 k found.2.1)) ends;
 }
   where
     found : (k.name.reader ≡ reader) × (is_named (names_of kept.known) reader ≡ true)

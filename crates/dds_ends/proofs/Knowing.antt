@@ -21,7 +21,7 @@ use Rattle.dds_protocol.proofs.InOrder.{same_self}
 use Rattle.dds_ends.specs.declared.match_counts.MatchCounts.{MatchCounts}
 use Rattle.dds_ends.specs.declared.matching.WriterName.{WriterName}
 use Rattle.dds_ends.specs.Kept.{ReaderKept}
-use Rattle.dds_ends.specs.Knowing.{KnowsMore, new_proxy, reader_with}
+use Rattle.dds_ends.specs.Knowing.{KnowsMore, new_proxy}
 use Rattle.dds_ends.specs.MatchCounts.{CountsFor}
 use Rattle.dds_ends.specs.Parting.{joined_here}
 use Rattle.dds_ends.specs.Standing.{HasNoRow, IsFirstRow, ReaderStands, stood_as}

@@ -5,7 +5,6 @@ use Rattle.std.specs.List.{list_any, remove}
 use Rattle.std.proofs.lemmas.List.{length-map}
 use Rattle.std.proofs.lemmas.List.Edits.{length-remove}
 use Rattle.std.proofs.lemmas.List.Elements.{All-from_recursion, recursion_from_All}
-use Rattle.dds_base.specs.declared.config.PeerConfig.{PeerConfig}
 use Rattle.rtps_writer.specs.Standing.{Kept, StandsFor as RtpsStandsFor, reader_count}
 use Rattle.rtps_writer.specs.WriterState.{WriterState, left as rtps_left}
 use Rattle.dds_base.specs.declared.endpoint.Endpoint.{Endpoint}
@@ -14,6 +13,7 @@ use Rattle.dds_machine.specs.Part.{Matches, ReaderProxy, Writer, peers_of, same_
 use Rattle.dds_protocol.proofs.InOrder.{same_self}
 use Rattle.dds_protocol.proofs.Ways.{both_true}
 use Rattle.dds_protocol.specs.Contact.{Contact}
+use Rattle.dds_protocol.specs.Roster.{Roster}
 use Rattle.dds_machine.proofs.Tables.{same_is}
 use Rattle.dds_ends.specs.declared.matching.Destination.{Destination}
 use Rattle.dds_ends.specs.declared.matching.LastCount.{LastCount}
@@ -271,23 +271,22 @@ leaves_match k reader to counts ends w answered s = record {
 }
 
 -- whom it is matched with is known as it was
-pub ends_leave : (peers : List PeerConfig) (topic : ℕ) (matched readers names : List ReaderName)
+pub ends_leave : (roster : Roster) (writer : Endpoint) (matched readers names : List ReaderName)
     (to : List Destination) (reader : Endpoint)
     → ((k : ℕ) (n : ReaderName) → slice_get names k ≡ Some n → (j : ℕ) × (slice_get readers j ≡ Some n))
-    → AreMatchedNow peers topic matched to readers
-    → AreMatchedNow peers topic (without matched reader) (first_peers (without matched reader)) names
-ends_leave peers topic matched readers names to reader were ends = record {
+    → AreMatchedNow roster writer matched to readers
+    → AreMatchedNow roster writer (without matched reader) (first_peers (without matched reader)) names
+ends_leave roster writer matched readers names to reader were ends = record {
   readers = there;
   sent_to = first_peers_are (without matched reader);
   prefixes = λ k d at.
       let f = peer_from (without matched reader) k d at in
       let n = there f.0 f.1 f.2 in
-      subst (λ (x : Destination). IsPeer peers x) f.3
-      (record { peer = n.is.peer; at = n.is.at_peer; prefix = n.same_prefix });
+      subst (λ (x : Destination). IsPeer roster x) f.3 n.is.same_prefix;
   named = λ k n at. let f = were k n at in ends.named f.0 n f.1;
 }
   where
-    there : (k : ℕ) (n : ReaderName) → slice_get (without matched reader) k ≡ Some n → IsNameOf peers topic n
+    there : (k : ℕ) (n : ReaderName) → slice_get (without matched reader) k ≡ Some n → IsNameOf roster writer n
     there k n at =
         let f = left_from (λ (x : ReaderName). not (same_endpoint x.reader reader)) matched k n at in
         ends.readers f.0 n f.1
@@ -473,10 +472,10 @@ leaves_at old k reader counts f counted = record {
   };
   stands = λ w answered s.
       leaves_match k reader (first_peers (without k.matched reader)) counts counted w answered (f.stands w answered s);
-  ends = λ peers topic ends.
-      subst (λ (ns : List ReaderName). AreMatchedNow peers topic (without ns reader) (first_peers (without ns reader))
+  ends = λ roster writer ends.
+      subst (λ (ns : List ReaderName). AreMatchedNow roster writer (without ns reader) (first_peers (without ns reader))
       k.readers) (sym (ap (λ (x : WriterKept). x.matched) f.same))
-      (ends_leave peers topic old.matched old.readers k.readers old.destinations reader f.names ends);
+      (ends_leave roster writer old.matched old.readers k.readers old.destinations reader f.names ends);
 }
 
 pub leaves_by : (old k : WriterKept) (reader : Endpoint) (matched : List ReaderName) (to : List Destination)

@@ -1,14 +1,19 @@
 -- Whom a writer is matched with: by the configuration at the opening, and where names stand among others.
-use Rattle.std.proofs.Common.{◌≡◌, ℕ, zero, suc, ◌+◌, ◌-◌, Bool, true, false, ◌||◌, List, [], ◌∷◌, Some, Contains, slice_get, refl, ap, sym, ◌∙◌, subst, arith, ⊎_elim}
+use Rattle.std.proofs.Common.{◌≡◌, ℕ, zero, suc, ◌+◌, ◌-◌, Bool, true, false, ◌||◌, List, [], ◌∷◌, Some, Contains, map, slice_get, refl, ap, sym, ◌∙◌, subst, arith, ⊎_elim, eq-eqb}
 use Rattle.std.proofs.lemmas.Option.{same_Some}
+use Rattle.dds_base.specs.declared.config.Config.{Config}
 use Rattle.dds_base.specs.declared.config.PeerConfig.{PeerConfig}
 use Rattle.dds_base.specs.declared.config.ReaderConfig.{ReaderConfig}
+use Rattle.dds_base.specs.declared.config.WriterConfig.{WriterConfig}
 use Rattle.dds_base.specs.Matched.{any_reader, is_reliable_reader}
 use Rattle.dds_base.specs.declared.endpoint.Endpoint.{Endpoint}
 use Rattle.dds_machine.specs.Part.{peers_of, same_endpoint}
 use Rattle.dds_machine.proofs.Tables.{same_is}
+use Rattle.dds_protocol.specs.Roster.{Roster, roster_of}
 use Rattle.dds_protocol.proofs.Composed.{front_or_rest}
 use Rattle.dds_protocol.proofs.InOrder.{same_self}
+use Rattle.dds_protocol.proofs.Listed.{StandsIn, matched_is, reader_named, reliable_is}
+use Rattle.dds_ends.specs.declared.matching.Destination.{Destination}
 use Rattle.dds_ends.specs.declared.matching.ReaderName.{ReaderName}
 use Rattle.dds_ends.specs.declared.matching.TopicName.{TopicName}
 use Rattle.dds_ends.specs.EndNames.{all_names, reader_name, reader_names, topic_name, topic_names}
@@ -17,7 +22,7 @@ use Rattle.dds_ends.specs.MatchedEnds.{AreKnownReaders, AreMatchedNow, AreNamedO
 use Rattle.dds_ends.proofs.Destinations.{among_at, is_peer, peers_are}
 use Rattle.dds_ends.proofs.Lists.{map-get}
 use Rattle.dds_ends.proofs.Named.{told}
-use Rattle.dds_ends.proofs.Numbered.{is_told}
+use Rattle.dds_ends.proofs.Numbered.{IsTold, is_told}
 use Rattle.dds_ends.proofs.Once.{Once}
 use Rattle.dds_ends.proofs.Tables.{map-matched_readers}
 
@@ -108,6 +113,77 @@ once_at (n ∷ ns) once (suc j) (suc k) x y at_x at_y same = ap suc (once_at ns 
 
 -- ---- at the opening
 
+-- what is told of the readers of a writer's topic is told of one that the roster matches with it
+name_told : {X : Type 0} (config : Config) (writer : Endpoint) (w : WriterConfig) (is_wanted : ReaderConfig → Bool)
+    (tell : ℕ → PeerConfig → ℕ → ReaderConfig → X) (x : X)
+    → StandsIn (λ (p : PeerConfig). p.writers) config.peers writer w
+    → (t : IsTold config.peers (λ (p : PeerConfig). p.readers) is_wanted (λ (r : ReaderConfig). r.topic) tell w.topic x)
+    → IsNameOf (roster_of config) writer (reader_name t.number t.peer t.end_number t.end)
+name_told config writer w is_wanted tell x own t =
+    let reader : Endpoint = record { peer = t.number; number = t.end_number } in
+    record {
+      is = reader_named config reader t.peer t.end t.at_peer t.at_end;
+      matched =
+          matched_is config writer reader own.peer t.peer w t.end own.at_peer own.at_end t.at_peer t.at_end
+          ∙ eq-eqb w.topic t.end.topic (sym t.same_topic);
+    }
+
+-- a reader of the topic
+any_opened : (config : Config) (writer : Endpoint) (w : WriterConfig) (k : ℕ) (name : ReaderName)
+    → StandsIn (λ (p : PeerConfig). p.writers) config.peers writer w
+    → slice_get (all_names w.topic config.peers) k ≡ Some name → IsNameOf (roster_of config) writer name
+any_opened config writer w k name own at =
+    let t =
+    is_told config.peers (λ (p : PeerConfig). p.readers) any_reader (λ (r : ReaderConfig). r.topic) reader_name w.topic
+    k name at in
+    subst (λ (x : ReaderName). IsNameOf (roster_of config) writer x) t.told
+    (name_told config writer w any_reader reader_name name own t)
+
+-- a reliable one
+name_opened : (config : Config) (writer : Endpoint) (w : WriterConfig) (k : ℕ) (name : ReaderName)
+    → StandsIn (λ (p : PeerConfig). p.writers) config.peers writer w
+    → slice_get (reader_names w.topic config.peers) k ≡ Some name → IsReliableName (roster_of config) writer name
+name_opened config writer w k name own at =
+    let t =
+    is_told config.peers (λ (p : PeerConfig). p.readers) is_reliable_reader (λ (r : ReaderConfig). r.topic) reader_name
+    w.topic k name at in
+    subst (λ (x : ReaderName). IsReliableName (roster_of config) writer x) t.told
+    (record {
+      name_is = name_told config writer w is_reliable_reader reader_name name own t;
+      reliable =
+          reliable_is config (record { peer = t.number; number = t.end_number }) t.peer t.end t.at_peer t.at_end
+          ∙ t.wanted;
+    })
+
+-- this name is of a reader that is matched with the writer, which is reliable or not
+abbrev pub IsNamedSo : Roster → Endpoint → ReaderName → Bool → Type 0
+IsNamedSo roster writer name true = IsReliableName roster writer name
+IsNamedSo roster writer name false = IsNameOf roster writer name
+
+-- what is known of the readers of the topic is so
+pub all_opened : (config : Config) (writer : Endpoint) (w : WriterConfig)
+    → StandsIn (λ (p : PeerConfig). p.writers) config.peers writer w
+    → AreKnownReaders (roster_of config) writer (topic_names w.topic config.peers)
+all_opened config writer w own k known at =
+    let t =
+    is_told config.peers (λ (p : PeerConfig). p.readers) any_reader (λ (r : ReaderConfig). r.topic) topic_name w.topic k
+    known at in
+    subst (λ (x : TopicName). IsKnownReader (roster_of config) writer x) t.told
+    (record {
+      name_is = name_told config writer w any_reader topic_name known own t;
+      as_reliable =
+          reliable_is config (record { peer = t.number; number = t.end_number }) t.peer t.end t.at_peer t.at_end;
+    })
+
+-- what is known of a reader is so of its name
+pub known_so : (roster : Roster) (writer : Endpoint) (known : TopicName) → IsKnownReader roster writer known
+    → IsNamedSo roster writer known.name known.is_reliable
+known_so roster writer known is = by known.is_reliable is.as_reliable
+  where
+    by : (b : Bool) → roster.is_reliable known.name.reader ≡ b → IsNamedSo roster writer known.name b
+    by true reliable = record { name_is = is.name_is; reliable = reliable }
+    by false reliable = is.name_is
+
 -- an end, by the numbers that it has
 end_as : (e : Endpoint) (peer number : ℕ) → peer ≡ e.peer → number ≡ e.number
     → ◌≡◌ {A = Endpoint} (record { peer = peer; number = number }) e
@@ -117,109 +193,40 @@ end_as e peer number p n = by peer e.peer number e.number p n
         → ◌≡◌ {A = Endpoint} (record { peer = a; number = c }) (record { peer = b; number = d })
     by a b c d p n = cc
 
--- a reader of the topic
-any_opened : (peers : List PeerConfig) (topic k : ℕ) (name : ReaderName)
-    → slice_get (all_names topic peers) k ≡ Some name → IsNameOf peers topic name
-any_opened peers topic k name at =
-    let t =
-    is_told peers (λ (p : PeerConfig). p.readers) any_reader (λ (r : ReaderConfig). r.topic) reader_name topic k name
-    at in
-    subst (λ (x : ReaderName). IsNameOf peers topic x) t.told
-    (record {
-      is = record {
-        peer = t.peer;
-        at_peer = t.at_peer;
-        end = t.end;
-        at_reader = t.at_end;
-        same_topic = t.same_topic;
-      };
-      same_prefix = refl;
-      same_entity = refl;
-    })
-
--- a reliable one
-name_opened : (peers : List PeerConfig) (topic k : ℕ) (name : ReaderName)
-    → slice_get (reader_names topic peers) k ≡ Some name → IsReliableName peers topic name
-name_opened peers topic k name at =
-    let t =
-    is_told peers (λ (p : PeerConfig). p.readers) is_reliable_reader (λ (r : ReaderConfig). r.topic) reader_name topic k
-    name at in
-    subst (λ (x : ReaderName). IsReliableName peers topic x) t.told
-    (record {
-      name_is = record {
-        is = record {
-          peer = t.peer;
-          at_peer = t.at_peer;
-          end = t.end;
-          at_reader = t.at_end;
-          same_topic = t.same_topic;
-        };
-        same_prefix = refl;
-        same_entity = refl;
-      };
-      reliable = t.wanted;
-    })
-
--- this name is of a reader of the topic, which is reliable or not
-abbrev pub IsNamedSo : List PeerConfig → ℕ → ReaderName → Bool → Type 0
-IsNamedSo peers topic name true = IsReliableName peers topic name
-IsNamedSo peers topic name false = IsNameOf peers topic name
-
--- what is known of the readers of the topic is so
-pub all_opened : (peers : List PeerConfig) (topic : ℕ) → AreKnownReaders peers topic (topic_names topic peers)
-all_opened peers topic k known at =
-    let t =
-    is_told peers (λ (p : PeerConfig). p.readers) any_reader (λ (r : ReaderConfig). r.topic) topic_name topic k known
-    at in
-    subst (λ (x : TopicName). IsKnownReader peers topic x) t.told
-    (record {
-      name_is = record {
-        is = record {
-          peer = t.peer;
-          at_peer = t.at_peer;
-          end = t.end;
-          at_reader = t.at_end;
-          same_topic = t.same_topic;
-        };
-        same_prefix = refl;
-        same_entity = refl;
-      };
-      as_reliable = refl;
-    })
-
--- what is known of a reader is so of its name
-pub known_so : (peers : List PeerConfig) (topic : ℕ) (known : TopicName) → IsKnownReader peers topic known
-    → IsNamedSo peers topic known.name known.is_reliable
-known_so peers topic known is = by known.is_reliable is.as_reliable
-  where
-    by : (b : Bool) → is_reliable_reader is.name_is.is.end ≡ b → IsNamedSo peers topic known.name b
-    by true reliable = record { name_is = is.name_is; reliable = reliable }
-    by false reliable = is.name_is
-
--- is a matched reader
+-- a reliable one is a matched reader
 pub matched_opened : (peers : List PeerConfig) (topic k : ℕ) (name : ReaderName)
     → slice_get (reader_names topic peers) k ≡ Some name → Contains (readers_of (all_names topic peers)) name.reader
 matched_opened peers topic k name at =
-    let n = (name_opened peers topic k name at).name_is in
+    let t =
+    is_told peers (λ (p : PeerConfig). p.readers) is_reliable_reader (λ (r : ReaderConfig). r.topic) reader_name topic k
+    name at in
     let there =
     told (λ (p : PeerConfig). p.readers) any_reader (λ (r : ReaderConfig). r.topic) reader_name topic 1 peers
-    (name.reader.peer - 1) n.is.peer (name.reader.number - 1) n.is.end n.is.at_peer.1 n.is.at_reader.1 refl
-    n.is.same_topic in
-    let low = n.is.at_peer.0 in
-    let above = n.is.at_reader.0 in
+    (t.number - 1) t.peer (t.end_number - 1) t.end t.at_peer.1 t.at_end.1 refl t.same_topic in
+    let low = t.at_peer.0 in
+    let above = t.at_end.0 in
+    let reader : Endpoint = record { peer = t.number; number = t.end_number } in
     subst (λ (e : Endpoint). Contains (readers_of (all_names topic peers)) e)
-    (end_as name.reader (1 + (name.reader.peer - 1)) (1 + (name.reader.number - 1)) (omega (arith, low))
-    (omega (arith, above)))
+    (end_as reader (1 + (t.number - 1)) (1 + (t.end_number - 1)) (omega (arith, low)) (omega (arith, above))
+    ∙ ap (λ (x : ReaderName). x.reader) t.told)
     (among_at (readers_of (all_names topic peers)) there.0 _
     (map-get (λ (x : ReaderName). x.reader) (all_names topic peers) there.0 _ there.1))
 
-pub ends_opened : (peers : List PeerConfig) (topic : ℕ)
-    → AreMatchedNow peers topic (all_names topic peers) (destinations topic 1 peers) (reader_names topic peers)
-ends_opened peers topic = record {
-  readers = λ k n at. any_opened peers topic k n at;
-  sent_to =
-      ap (λ (es : List Endpoint). peers_of es)
-      (map-matched_readers (λ (n : ReaderName). n.reader) reader_name topic 1 peers) ∙ peers_are topic 1 peers;
-  prefixes = λ k d at. is_peer peers topic k d at;
-  named = λ k n at. name_opened peers topic k n at;
+-- a writer sends to the peers of its matched readers
+pub sent_opened : (peers : List PeerConfig) (topic : ℕ)
+    → peers_of (readers_of (all_names topic peers)) ≡ map (λ (d : Destination). d.peer) (destinations topic 1 peers)
+sent_opened peers topic =
+    ap (λ (es : List Endpoint). peers_of es)
+    (map-matched_readers (λ (n : ReaderName). n.reader) reader_name topic 1 peers) ∙ peers_are topic 1 peers
+
+-- whom a writer is matched with
+pub ends_opened : (config : Config) (writer : Endpoint) (w : WriterConfig)
+    → StandsIn (λ (p : PeerConfig). p.writers) config.peers writer w
+    → AreMatchedNow (roster_of config) writer (all_names w.topic config.peers)
+    (destinations w.topic 1 config.peers) (reader_names w.topic config.peers)
+ends_opened config writer w own = record {
+  readers = λ k n at. any_opened config writer w k n own at;
+  sent_to = sent_opened config.peers w.topic;
+  prefixes = λ k d at. is_peer config w.topic k d at;
+  named = λ k n at. name_opened config writer w k n own at;
 }

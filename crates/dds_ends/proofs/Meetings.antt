@@ -1,5 +1,5 @@
 -- A writer that knows one reader more, what it then stands for, and why it refuses one that it may not know.
-use Rattle.std.proofs.Common.{◌≡◌, ◌⊎◌, ⊎_elim, inl, inr, ℕ, ◌+◌, ◌<◌, ◌≤◌, ◌==◌, Bool, true, false, not, ◌&&◌, ◌||◌, List, [], ◌∷◌, ◌++◌, Option, Some, None, map, length, refl, ap, sym, ◌∙◌, subst, arith, eqb-true, length-append}
+use Rattle.std.proofs.Common.{◌≡◌, ⊎_elim, inl, ℕ, ◌+◌, ◌<◌, ◌≤◌, ◌==◌, Bool, true, false, not, ◌&&◌, ◌||◌, List, [], ◌∷◌, ◌++◌, Option, Some, None, map, length, refl, ap, sym, ◌∙◌, subst, arith, eqb-true, length-append}
 use Rattle.std.specs.Prelude.{if◌then◌else◌, is_some, nat_le}
 use Rattle.std.specs.List.{count_by}
 use Rattle.std.specs.Option.{option_or}
@@ -7,15 +7,12 @@ use Rattle.std.proofs.lemmas.Bool.{or_parts}
 use Rattle.std.proofs.lemmas.Bool.Decides.{nat_tests}
 use Rattle.std.proofs.lemmas.List.{length-map, map-append}
 use Rattle.dds_base.specs.Bounds.{max_ends}
-use Rattle.dds_base.specs.declared.code.Code.{Code}
 use Rattle.dds_base.specs.declared.code.Code.TheVariants.{OutOfResources}
-use Rattle.dds_base.specs.declared.config.PeerConfig.{PeerConfig}
 use Rattle.dds_base.specs.declared.endpoint.Endpoint.{Endpoint}
 use Rattle.rtps_writer.specs.Standing.{Kept}
-use Rattle.dds_machine.specs.Matching.{is_matched, joined, known_at, knowing, knows_reader, knows_reliable, knows_too_many, matching_refusal, max_known}
+use Rattle.dds_machine.specs.Matching.{joined, known_at, knowing, knows_reader, knows_reliable, knows_too_many, matching_refusal, max_known}
 use Rattle.dds_machine.specs.Part.{TopicReader, Writer, same_endpoint}
 use Rattle.dds_protocol.specs.Contact.{Contact}
-use Rattle.dds_protocol.specs.Dues.{AreFew}
 use Rattle.dds_protocol.proofs.InOrder.{same_self}
 use Rattle.dds_ends.specs.declared.matching.Destination.{Destination}
 use Rattle.dds_ends.specs.declared.matching.ReaderName.{ReaderName}
@@ -23,7 +20,7 @@ use Rattle.dds_ends.specs.declared.matching.TopicName.{TopicName}
 use Rattle.dds_ends.specs.Beating.{names_at}
 use Rattle.dds_ends.specs.Coming.{Joins, RefusesSo, matched_anew}
 use Rattle.dds_ends.specs.Kept.{WriterKept}
-use Rattle.dds_ends.specs.MatchedEnds.{AreAmong, AreKnownReaders, is_named, known_as, names_of, readers_of, topic_reader}
+use Rattle.dds_ends.specs.MatchedEnds.{AreKnownReaders, is_named, known_as, names_of, topic_reader}
 use Rattle.dds_ends.specs.Meeting.{MayKnow, MayMeet, Meets, is_full, learned, meeting_refusal, with_known}
 use Rattle.dds_ends.specs.Standing.{IsWhole, WriterStands}
 use Rattle.dds_ends.proofs.Among.{is_known_as}
@@ -227,9 +224,9 @@ meets_known old name reliable k greeted new is learns =
           subst (λ (x : Writer). WriterStands new (joined x name.reader (knows_reliable x name.reader))
           (matched_anew answered name.reader (greeted && knows_reliable x name.reader)))
           (sym (knows_it w (knows_as old name.reader (Some k) w answered s is))) (joins.stands w answered s);
-      ends = λ peers topic are ends.
-          joins.ends peers topic
-          (subst (λ (ks : List TopicName). AreKnownReaders peers topic ks) joins.same.known are) ends;
+      ends = λ roster writer are ends.
+          joins.ends roster writer
+          (subst (λ (ks : List TopicName). AreKnownReaders roster writer ks) joins.same.known are) ends;
     }
   where
     knows_it : (w : Writer) → knows_reader w name.reader ≡ true → knowing w name.reader reliable ≡ w
@@ -247,8 +244,8 @@ meets_new old k greeted new joins = record {
   known = joins.same.known;
   stands = λ w answered s.
       joins.stands (knowing w k.name.reader k.is_reliable) answered (learned_stands old k w answered s);
-  ends = λ peers topic are ends.
-      joins.ends peers topic (subst (λ (ks : List TopicName). AreKnownReaders peers topic ks) joins.same.known are)
+  ends = λ roster writer are ends.
+      joins.ends roster writer (subst (λ (ks : List TopicName). AreKnownReaders roster writer ks) joins.same.known are)
       ends;
 }
 

@@ -1,9 +1,8 @@
 -- Lists whose elements are numbered from 1, walked from the front.
-use Rattle.std.proofs.Common.{◌≡◌, ◌⊎◌, ℕ, zero, suc, ◌+◌, ◌-◌, ◌≤◌, Bool, true, false, cond, ◌&&◌, List, [], ◌∷◌, ◌++◌, Some, slice_get, refl, sym, ◌∙◌, subst, arith, inl, inr, ⊎_elim, eqb-true}
+use Rattle.std.proofs.Common.{◌≡◌, ◌⊎◌, ℕ, zero, suc, ◌+◌, ◌-◌, ◌≤◌, Bool, true, false, cond, ◌&&◌, List, [], ◌∷◌, ◌++◌, Some, slice_get, refl, sym, subst, arith, inl, inr, ⊎_elim, eqb-true}
 use Rattle.std.proofs.lemmas.Option.{same_Some}
 use Rattle.dds_base.specs.declared.config.PeerConfig.{PeerConfig}
 use Rattle.dds_base.specs.Matched.{same_topic, of_ends_in, of_matched_ends}
-use Rattle.dds_base.specs.declared.endpoint.Endpoint.{Endpoint}
 use Rattle.dds_protocol.specs.Claims.{IsNumbered}
 
 -- what is left of a list, from the element of this number on
@@ -108,13 +107,3 @@ pub is_told : {E X : Type 0} (all : List PeerConfig) (ends : PeerConfig → List
     → slice_get (of_matched_ends ends is_wanted topic_of tell topic 1 all) k ≡ Some x
     → IsTold all ends is_wanted topic_of tell topic x
 is_told all ends is_wanted topic_of tell topic k x at = told_from all ends is_wanted topic_of tell topic 1 all (rest_whole all) k x at
-
--- two ends of one number are one
-pub same_end : {E : Type 0} (ends : PeerConfig → List E) (all : List PeerConfig) (e : Endpoint) (p q : PeerConfig)
-    (x y : E) → IsNumbered all e.peer p → IsNumbered all e.peer q → IsNumbered (ends p) e.number x
-    → IsNumbered (ends q) e.number y → (p ≡ q) × (x ≡ y)
-same_end ends all e p q x y at_p at_q at_x at_y =
-    let peers : p ≡ q = same_Some p q (sym at_p.1 ∙ at_q.1) in
-    let there : slice_get (ends q) (e.number - 1) ≡ Some x =
-    subst (λ (o : PeerConfig). slice_get (ends o) (e.number - 1) ≡ Some x) peers at_x.1 in
-    (peers, same_Some x y (sym there ∙ at_y.1))

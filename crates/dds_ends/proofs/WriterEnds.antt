@@ -43,7 +43,7 @@ use Rattle.dds_ends.proofs.Acknowledging.{state_as}
 use Rattle.dds_ends.proofs.FewAt.{few_opened}
 use Rattle.dds_ends.proofs.FirstPeers.{any-map}
 use Rattle.dds_ends.proofs.Lists.{any_either}
-use Rattle.dds_ends.proofs.MatchedAt.{ends_opened, matched_opened, named_at, named_is, once_named}
+use Rattle.dds_ends.proofs.MatchedAt.{sent_opened, matched_opened, named_at, named_is, once_named}
 use Rattle.dds_ends.proofs.Once.{all_once, named_once}
 use Rattle.dds_ends.proofs.Tables.{map-matched_readers, map-reliable_readers, told_alike}
 
@@ -233,7 +233,8 @@ whole_opened peers w known es ds names limit strength kept count fits knows limi
           ∙ (rows_opened peers w.topic).among e (ap (λ (ns : List ReaderName). is_named ns e) (sym matched) ∙ is);
       told =
           ap (λ (ns : List ReaderName). peers_of (readers_of ns)) ends
-          ∙ ((ends_opened peers w.topic).sent_to ∙ sym (ap (λ (xs : List Destination). map (λ (d : Destination). d.peer) xs) sent));
+          ∙ (sent_opened peers w.topic
+          ∙ sym (ap (λ (xs : List Destination). map (λ (d : Destination). d.peer) xs) sent));
       few = omega (arith, few);
       many = omega (arith, many);
       count = rows ∙ counted;

@@ -5,12 +5,12 @@
 use Rattle.std.specs.Prelude.{◌≡◌, ℕ, ◌==◌, ◌&&◌, Bool, false, not, if◌then◌else◌, List, [], ◌∷◌, ◌++◌, filter, slice_get, take, Option, Some, None, ℤ}
 use Rattle.std.specs.List.{list_any}
 use Rattle.std.specs.Option.{option_map_or}
-use Rattle.dds_base.specs.declared.config.PeerConfig.{PeerConfig}
 use Rattle.dds_base.specs.declared.endpoint.Endpoint.{Endpoint}
 use Rattle.dds_base.specs.declared.code.Code.{Code}
 use Rattle.dds_machine.specs.Matching.{is_matched, joined, knows_reader, knows_reliable, left, matching_refusal, writer_looked_at}
 use Rattle.dds_machine.specs.Part.{ReaderProxy, Writer, same_endpoint}
 use Rattle.dds_protocol.specs.Contact.{Contact}
+use Rattle.dds_protocol.specs.Roster.{Roster}
 use Rattle.dds_ends.specs.declared.matching.Destination.{Destination}
 use Rattle.dds_ends.specs.declared.matching.LastCount.{LastCount}
 use Rattle.dds_ends.specs.declared.matching.ReaderName.{ReaderName}
@@ -92,9 +92,9 @@ pub record Leaves (old : WriterKept) (reader : Endpoint) (new : WriterKept) : Ty
   pub same : IsSameWriter old new
   pub stands : (w : Writer) (answered : Endpoint → Contact) → WriterStands old w answered
       → WriterStands new (left w reader) answered
-  pub ends : (peers : List PeerConfig) (topic : ℕ)
-      → AreMatchedNow peers topic old.matched old.destinations old.readers
-      → AreMatchedNow peers topic new.matched new.destinations new.readers
+  pub ends : (roster : Roster) (writer : Endpoint)
+      → AreMatchedNow roster writer old.matched old.destinations old.readers
+      → AreMatchedNow roster writer new.matched new.destinations new.readers
 
 -- what a writer knows of its readers, once it is matched with this one anew: it asks for no HEARTBEAT, and is silent or
 -- not
@@ -103,16 +103,16 @@ matched_anew answered reader silent r =
     if same_endpoint r reader then record (answered reader) { asks = false; silent = silent } else answered r
 
 -- A writer that is matched with one reader more, where it was not; and nothing else. The reader asks for no HEARTBEAT,
--- and is silent where it was greeted, and is reliable. Whom the writer is matched with is known, as it was, where it
--- knows the readers of its topic.
+-- and is silent where it was greeted, and is reliable. Whom the writer is matched with is known, as it was, where those
+-- that it knows are readers that the roster matches with it.
 pub record Joins (old : WriterKept) (reader : Endpoint) (greeted : Bool) (new : WriterKept) : Type 0 where
   pub same : IsSameWriter old new
   pub stands : (w : Writer) (answered : Endpoint → Contact) → WriterStands old w answered
       → WriterStands new (joined w reader (knows_reliable w reader))
       (matched_anew answered reader (greeted && knows_reliable w reader))
-  pub ends : (peers : List PeerConfig) (topic : ℕ) → AreKnownReaders peers topic old.known
-      → AreMatchedNow peers topic old.matched old.destinations old.readers
-      → AreMatchedNow peers topic new.matched new.destinations new.readers
+  pub ends : (roster : Roster) (writer : Endpoint) → AreKnownReaders roster writer old.known
+      → AreMatchedNow roster writer old.matched old.destinations old.readers
+      → AreMatchedNow roster writer new.matched new.destinations new.readers
 
 -- a writer at whose matches the application has looked, and nothing else
 pub record LooksAtMatches (old new : WriterKept) : Type 0 where

@@ -1,17 +1,19 @@
--- What stays of what a writer and a reader keep, and what the configuration says of it. Inner functions alone cite
+-- What stays of what a writer and a reader keep, and what the roster says of it. Inner functions alone cite
 -- this: nothing here has to be believed.
 --
 -- RTPS 2.5, 8.2 (Endpoint).
-use Rattle.std.specs.Prelude.{◌≡◌, ◌≤◌, ℕ, Bool, List, length, map}
+use Rattle.std.specs.Prelude.{◌≡◌, ◌≤◌, ℕ, Bool, List, length, map, Some}
 use Rattle.dds_base.specs.declared.config.PeerConfig.{PeerConfig}
 use Rattle.dds_base.specs.declared.config.WriterConfig.{WriterConfig}
 use Rattle.dds_base.specs.declared.config.ReaderConfig.{ReaderConfig}
+use Rattle.dds_base.specs.declared.endpoint.Endpoint.{Endpoint}
 use Rattle.dds_base.specs.declared.guid.EntityId.{EntityId}
 use Rattle.dds_base.specs.Matched.{is_reliable, is_reliable_reader}
 use Rattle.dds_cache.specs.Standing.{qos_of}
 use Rattle.dds_lease.specs.Standing.{writer_count}
 use Rattle.rtps_reader.specs.Reader.{Proxies, count_of}
 use Rattle.dds_machine.specs.Matching.{max_known}
+use Rattle.dds_protocol.specs.Roster.{Roster}
 use Rattle.dds_ends.specs.Stored.{StoreKept}
 use Rattle.dds_ends.specs.declared.matching.Destination.{Destination}
 use Rattle.dds_ends.specs.declared.matching.LastCount.{LastCount}
@@ -86,19 +88,17 @@ configured_writer peers w =
       counts = map first_count (reader_names w.topic peers);
     }
 
--- a writer of the configuration, with those that it is matched with now
-pub record IsWriterOf (peers : List PeerConfig) (w : WriterConfig) (is : WriterIdentity) : Type 0 where
-  pub entity : is.entity ≡ w.entity
-  pub autodispose : is.autodispose ≡ w.autodispose
-  pub max_value : is.max_value ≡ w.max_value
-  pub known : AreKnownReaders peers w.topic is.known
-  pub ends : AreMatchedNow peers w.topic is.matched is.destinations is.readers
+-- a writer of the roster, with those that it is matched with now
+pub record IsWriterOf (roster : Roster) (writer : Endpoint) (is : WriterIdentity) : Type 0 where
+  pub entity : roster.writers writer ≡ Some is.entity
+  pub known : AreKnownReaders roster writer is.known
+  pub ends : AreMatchedNow roster writer is.matched is.destinations is.readers
 
--- a reader of the configuration, with the writers that it knows
-pub record IsConfiguredReader (peers : List PeerConfig) (r : ReaderConfig) (is : ReaderIdentity) : Type 0 where
-  pub entity : is.entity ≡ r.entity
-  pub reliable : is.reliable ≡ is_reliable_reader r
-  pub writers : AreKnownWriters peers r.topic is.writers
+-- a reader of the roster, with the writers that it knows
+pub record IsReaderOf (roster : Roster) (reader : Endpoint) (is : ReaderIdentity) : Type 0 where
+  pub entity : roster.readers reader ≡ Some is.entity
+  pub reliable : roster.is_reliable reader ≡ is.reliable
+  pub writers : AreKnownWriters roster reader is.writers
 
 -- a reader at its opening, as the configuration says it
 abbrev pub configured_reader : List PeerConfig → ReaderConfig → ReaderIdentity

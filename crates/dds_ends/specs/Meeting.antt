@@ -7,7 +7,6 @@ use Rattle.std.specs.List.{list_any}
 use Rattle.std.specs.Option.{option_or}
 use Rattle.dds_base.specs.declared.code.Code.{Code}
 use Rattle.dds_base.specs.declared.code.Code.TheVariants.{OutOfResources}
-use Rattle.dds_base.specs.declared.config.PeerConfig.{PeerConfig}
 use Rattle.dds_base.specs.declared.endpoint.Endpoint.{Endpoint}
 use Rattle.dds_base.specs.declared.qos.MatchedWriter.{MatchedWriter}
 use Rattle.dds_base.specs.Bounds.{max_ends}
@@ -15,6 +14,7 @@ use Rattle.dds_machine.specs.Matching.{has_too_many, is_matched, knows_too_many,
 use Rattle.dds_machine.specs.Part.{Reader, Writer, WriterProxy, how_of, is_attached, same_endpoint}
 use Rattle.dds_protocol.specs.Contact.{Contact}
 use Rattle.rtps_reader.specs.Tracked.{Tracked}
+use Rattle.dds_protocol.specs.Roster.{Roster}
 use Rattle.dds_ends.specs.declared.matching.ReaderName.{ReaderName}
 use Rattle.dds_ends.specs.declared.matching.TopicName.{TopicName}
 use Rattle.dds_ends.specs.declared.matching.WriterName.{WriterName}
@@ -58,7 +58,7 @@ meeting_refusal w reader =
     (if knows_too_many w reader then Some OutOfResources else None)
 
 -- A writer that is matched with one reader more, where it was not, and knows it from now on; and nothing else. Whom the
--- writer is matched with is known, where those that it knows then are readers of its topic.
+-- writer is matched with is known, where those that it knows then are readers that the roster matches with it.
 pub record Meets (old : WriterKept) (name : ReaderName) (reliable greeted : Bool) (new : WriterKept) : Type 0 where
   pub entity : new.entity ≡ old.entity
   pub autodispose : new.autodispose ≡ old.autodispose
@@ -67,9 +67,9 @@ pub record Meets (old : WriterKept) (name : ReaderName) (reliable greeted : Bool
   pub stands : (w : Writer) (answered : Endpoint → Contact) → WriterStands old w answered
       → WriterStands new (met w name.reader reliable)
       (matched_anew answered name.reader (greeted && meets_reliable w name.reader reliable))
-  pub ends : (peers : List PeerConfig) (topic : ℕ) → AreKnownReaders peers topic new.known
-      → AreMatchedNow peers topic old.matched old.destinations old.readers
-      → AreMatchedNow peers topic new.matched new.destinations new.readers
+  pub ends : (roster : Roster) (writer : Endpoint) → AreKnownReaders roster writer new.known
+      → AreMatchedNow roster writer old.matched old.destinations old.readers
+      → AreMatchedNow roster writer new.matched new.destinations new.readers
 
 -- ---- at a reader
 

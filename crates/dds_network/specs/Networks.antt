@@ -14,6 +14,7 @@ use Rattle.dds_machine.specs.declared.reply.Reply.TheVariants.{Samples}
 use Rattle.dds_protocol.specs.declared.event.Event.{Event}
 use Rattle.dds_protocol.specs.declared.event.Event.TheVariants.{Call, Deliver}
 use Rattle.dds_protocol.specs.declared.event.Output.{Output}
+use Rattle.dds_protocol.specs.Roster.{roster_of}
 use Rattle.rtps_announcements.specs.declared.participant.Participant.{Participant}
 use Rattle.dds_builtin.specs.Builtin.{network_of, number_of}
 use Rattle.dds_network.specs.declared.network.Network.{Network}
@@ -35,8 +36,8 @@ Does old event output new =
 pub record IsOpening (own : GuidPrefix) (far : Participant) (core : Kept) : Type 0 where
   pub stands : StandsFor keeps_nothing has_no_room stays_as_it_is
       (no_listeners (opening_peer (network_of own far) (number_of own far)).part) core
-      (network_of own far) (opening_peer (network_of own far) (number_of own far))
-  pub known : IsSound (network_of own far) (opening_peer (network_of own far) (number_of own far))
+      (roster_of (network_of own far)) (opening_peer (network_of own far) (number_of own far))
+  pub known : IsSound (roster_of (network_of own far)) (opening_peer (network_of own far) (number_of own far))
   pub filters : core.filtered.filters ≡ []
 
 -- A network was opened with a participant: nothing was taken of its readers yet.

@@ -1,6 +1,7 @@
 -- A reader that is not silent stays so, but where its writer is told to greet it.
 use Rattle.std.proofs.Common.{◌≡◌, ℕ, ◌+◌, ◌&&◌, Bool, false, List, [], ◌∷◌, Option, length, refl, subst, ap, sym, ◌∙◌, inl, inr, ⊎_elim}
 use Rattle.dds_base.specs.declared.config.Config.{Config}
+use Rattle.dds_protocol.specs.Roster.{Roster}
 use Rattle.dds_base.specs.declared.endpoint.Endpoint.{Endpoint}
 use Rattle.dds_base.specs.declared.guid.GuidPrefix.{GuidPrefix}
 use Rattle.dds_base.specs.Kept.{numbers_from}
@@ -27,7 +28,6 @@ use Rattle.dds_protocol.specs.Noticing.{world_ended}
 use Rattle.dds_protocol.specs.Opening.{opening_world}
 use Rattle.dds_protocol.specs.Peer.{Peer, Knows, known_after, state_of}
 use Rattle.dds_protocol.specs.Protocol.{Known, State, stands_to, InTurn, Takes, ReaderTakes, WriterTakes, FollowsMessage, TakesPacket, asks_for_heartbeat, contact_after, with_answered}
-use Rattle.dds_protocol.specs.Receipt.{prefix_of}
 use Rattle.dds_protocol.specs.Resuming.{GoesAgain, GoAgain}
 use Rattle.dds_protocol.specs.Rules.{AreDue, RuledStep, RuledRun}
 use Rattle.dds_protocol.specs.World.{WorldState, WorldStep, peer_at}
@@ -78,14 +78,14 @@ tick_still old now reply new h = still_same old.known new.known h
 
 -- ---- a packet
 
-writer_still : (config : Config) (own : GuidPrefix) (peer : ℕ) (at : Receiver) (a : AckNackBody) (writer : ℕ)
+writer_still : (roster : Roster) (own : GuidPrefix) (peer : ℕ) (at : Receiver) (a : AckNackBody) (writer : ℕ)
     (reader : Endpoint) (old : State) (moves : List Move) (dues : List Due) (new : State)
-    → WriterTakes config own peer at a writer reader old moves dues new → StillAnswered old.known new.known
-writer_still config own peer at a writer reader old moves dues new (inl h) =
+    → WriterTakes roster own peer at a writer reader old moves dues new → StillAnswered old.known new.known
+writer_still roster own peer at a writer reader old moves dues new (inl h) =
     subst (λ (s : State). StillAnswered old.known s.known) (sym h.2.after)
     (still_with old.known writer reader (contact_after (old.known.answered writer reader) a)
     (λ answered. ap (λ (b : Bool). b && asks_for_heartbeat a) answered))
-writer_still config own peer at a writer reader old moves dues new (inr h) =
+writer_still roster own peer at a writer reader old moves dues new (inr h) =
     still_same old.known new.known (ap (λ (s : State). s.known) h.1.2)
 
 -- steps in turn
@@ -98,57 +98,57 @@ turns_still step each xs old moves dues new h =
     in_turn (λ (a : State) (ds : List Due) (b : State). StillAnswered a.known b.known) (λ s. still_is s.known)
     (λ a b c first rest f g w r answered. g w r (f w r answered)) step each xs old moves dues new h
 
-readers_still : (config : Config) (own : GuidPrefix) (peer : ℕ) (at : Receiver) (s : Submessage) (readers : List ℕ)
+readers_still : (roster : Roster) (own : GuidPrefix) (peer : ℕ) (at : Receiver) (s : Submessage) (readers : List ℕ)
     (old : State) (moves : List Move) (dues : List Due) (new : State)
-    → InTurn (ReaderTakes config own peer at s) readers old moves dues new → StillAnswered old.known new.known
-readers_still config own peer at s readers old moves dues new h =
-    turns_still (ReaderTakes config own peer at s)
-    (λ k a ms ds b t. still_alike a.known b.known (reader_leaves config own peer at s k a ms ds b t).keeps.answered)
+    → InTurn (ReaderTakes roster own peer at s) readers old moves dues new → StillAnswered old.known new.known
+readers_still roster own peer at s readers old moves dues new h =
+    turns_still (ReaderTakes roster own peer at s)
+    (λ k a ms ds b t. still_alike a.known b.known (reader_leaves roster own peer at s k a ms ds b t).keeps.answered)
     readers old moves dues new h
 
-takes_still : (config : Config) (own : GuidPrefix) (peer : ℕ) (at : Receiver) (s : Submessage) (old : State)
-    (moves : List Move) (dues : List Due) (new : State) → Takes config own peer at s old moves dues new
+takes_still : (roster : Roster) (own : GuidPrefix) (peer : ℕ) (at : Receiver) (s : Submessage) (old : State)
+    (moves : List Move) (dues : List Due) (new : State) → Takes roster own peer at s old moves dues new
     → StillAnswered old.known new.known
-takes_still config own peer at (AckNack a) old moves dues new h =
+takes_still roster own peer at (AckNack a) old moves dues new h =
     turns_still
-    (λ (writer : ℕ). InTurn (λ (p : ReaderProxy). WriterTakes config own peer at a writer p.reader)
+    (λ (writer : ℕ). InTurn (λ (p : ReaderProxy). WriterTakes roster own peer at a writer p.reader)
     (own_writer old.part writer).readers)
-    (λ writer. turns_still (λ (p : ReaderProxy). WriterTakes config own peer at a writer p.reader)
-    (λ p. writer_still config own peer at a writer p.reader) (own_writer old.part writer).readers)
+    (λ writer. turns_still (λ (p : ReaderProxy). WriterTakes roster own peer at a writer p.reader)
+    (λ p. writer_still roster own peer at a writer p.reader) (own_writer old.part writer).readers)
     (numbers_from 1 (length old.part.rtps.writers)) old moves dues new h
-takes_still config own peer at (Data d) old moves dues new h =
-    readers_still config own peer at (Data d) (numbers_from 1 (length old.part.rtps.readers)) old moves dues new h
-takes_still config own peer at (Gap g) old moves dues new h =
-    readers_still config own peer at (Gap g) (numbers_from 1 (length old.part.rtps.readers)) old moves dues new h
-takes_still config own peer at (Heartbeat b) old moves dues new h =
-    readers_still config own peer at (Heartbeat b) (numbers_from 1 (length old.part.rtps.readers)) old moves dues new h
-takes_still config own peer at Pad old moves dues new h =
-    readers_still config own peer at Pad (numbers_from 1 (length old.part.rtps.readers)) old moves dues new h
-takes_still config own peer at (InfoDst x) old moves dues new h =
-    readers_still config own peer at (InfoDst x) (numbers_from 1 (length old.part.rtps.readers)) old moves dues new h
-takes_still config own peer at (InfoTs x) old moves dues new h =
-    readers_still config own peer at (InfoTs x) (numbers_from 1 (length old.part.rtps.readers)) old moves dues new h
-takes_still config own peer at (Other x) old moves dues new h =
-    readers_still config own peer at (Other x) (numbers_from 1 (length old.part.rtps.readers)) old moves dues new h
+takes_still roster own peer at (Data d) old moves dues new h =
+    readers_still roster own peer at (Data d) (numbers_from 1 (length old.part.rtps.readers)) old moves dues new h
+takes_still roster own peer at (Gap g) old moves dues new h =
+    readers_still roster own peer at (Gap g) (numbers_from 1 (length old.part.rtps.readers)) old moves dues new h
+takes_still roster own peer at (Heartbeat b) old moves dues new h =
+    readers_still roster own peer at (Heartbeat b) (numbers_from 1 (length old.part.rtps.readers)) old moves dues new h
+takes_still roster own peer at Pad old moves dues new h =
+    readers_still roster own peer at Pad (numbers_from 1 (length old.part.rtps.readers)) old moves dues new h
+takes_still roster own peer at (InfoDst x) old moves dues new h =
+    readers_still roster own peer at (InfoDst x) (numbers_from 1 (length old.part.rtps.readers)) old moves dues new h
+takes_still roster own peer at (InfoTs x) old moves dues new h =
+    readers_still roster own peer at (InfoTs x) (numbers_from 1 (length old.part.rtps.readers)) old moves dues new h
+takes_still roster own peer at (Other x) old moves dues new h =
+    readers_still roster own peer at (Other x) (numbers_from 1 (length old.part.rtps.readers)) old moves dues new h
 
-follows_still : (config : Config) (own : GuidPrefix) (peer index : ℕ) (at : Receiver) (ss : List Submessage)
+follows_still : (roster : Roster) (own : GuidPrefix) (peer index : ℕ) (at : Receiver) (ss : List Submessage)
     (old : State) (moves : List Move) (refused : Option ℕ) (dues : List Due) (new : State)
-    → FollowsMessage config own peer index at ss old moves refused dues new → StillAnswered old.known new.known
-follows_still config own peer index at [] old moves refused dues new h =
+    → FollowsMessage roster own peer index at ss old moves refused dues new → StillAnswered old.known new.known
+follows_still roster own peer index at [] old moves refused dues new h =
     still_same old.known new.known (ap (λ (s : State). s.known) h.1.2)
-follows_still config own peer index at (s ∷ ss) old moves refused dues new (inl h) =
+follows_still roster own peer index at (s ∷ ss) old moves refused dues new (inl h) =
     still_same old.known new.known (ap (λ (s : State). s.known) h.1.2)
-follows_still config own peer index at (s ∷ ss) old moves refused dues new (inr h) =
+follows_still roster own peer index at (s ∷ ss) old moves refused dues new (inr h) =
     λ w r answered.
-    follows_still config own peer (index + 1) (after_submessage own at s) ss h.4 h.1 refused h.3 new h.8 w r
-    (takes_still config own peer at s old h.0 h.2 h.4 h.7 w r answered)
+    follows_still roster own peer (index + 1) (after_submessage own at s) ss h.4 h.1 refused h.3 new h.8 w r
+    (takes_still roster own peer at s old h.0 h.2 h.4 h.7 w r answered)
 
-packet_still : (config : Config) (peer : ℕ) (bytes : List ℕ) (old : State) (report : Report) (dues : List Due)
-    (new : State) → TakesPacket config peer bytes old report dues new → StillAnswered old.known new.known
-packet_still config peer bytes old report dues new (inl h) =
-    follows_still config (prefix_of config peer) peer 0 (receiver_of h.message.prefix) h.message.submessages old
+packet_still : (roster : Roster) (peer : ℕ) (bytes : List ℕ) (old : State) (report : Report) (dues : List Due)
+    (new : State) → TakesPacket roster peer bytes old report dues new → StillAnswered old.known new.known
+packet_still roster peer bytes old report dues new (inl h) =
+    follows_still roster (roster.prefix peer) peer 0 (receiver_of h.message.prefix) h.message.submessages old
     report.moves report.refused dues new h.follows
-packet_still config peer bytes old report dues new (inr h) = still_same old.known new.known h.1
+packet_still roster peer bytes old report dues new (inr h) = still_same old.known new.known h.1
 
 -- ---- places that are tried again
 
@@ -188,38 +188,38 @@ one_still old new peer one others p =
     (ap (λ (x : Peer). x.known) (others p apart)))
     (number_or_not p peer)
 
-event_still : (config : Config) (tests : AllTests) (old : WorldState) (ev : WorldEvent) (reply : Reply)
-    (new : WorldState) (dues : List Due) → GreetsNobody ev → WorldStep config tests old ev reply new
-    → AreDue config old ev reply new dues → AllStill old new
-event_still config tests old (world.Call peer c) reply new dues none (inl s) are =
-    known_by StillAnswered still_is config (tests peer) old peer (event.Call c) reply new s
+event_still : (roster : Roster) (tests : AllTests) (old : WorldState) (ev : WorldEvent) (reply : Reply)
+    (new : WorldState) (dues : List Due) → GreetsNobody ev → WorldStep roster tests old ev reply new
+    → AreDue roster old ev reply new dues → AllStill old new
+event_still roster tests old (world.Call peer c) reply new dues none (inl s) are =
+    known_by StillAnswered still_is roster (tests peer) old peer (event.Call c) reply new s
     (subst (λ (k : Known). StillAnswered (peer_at old peer).known k) (sym s.step.knows)
     (call_still peer (peer_at old peer) c s.output.reply none))
-event_still config tests old (world.Call peer c) reply new dues none (inr s) are = all_same old new s.1.after
-event_still config tests old (world.Tick peer now) reply new dues none (inl s) are =
-    known_by StillAnswered still_is config (tests peer) old peer (event.Tick now) reply new s
+event_still roster tests old (world.Call peer c) reply new dues none (inr s) are = all_same old new s.1.after
+event_still roster tests old (world.Tick peer now) reply new dues none (inl s) are =
+    known_by StillAnswered still_is roster (tests peer) old peer (event.Tick now) reply new s
     (tick_still (peer_at old peer) now s.output.reply s.after s.step.knows)
-event_still config tests old (world.Tick peer now) reply new dues none (inr s) are = all_same old new s.1.after
-event_still config tests old (world.Deliver peer number) (Reported report) new dues none (inl s) are =
+event_still roster tests old (world.Tick peer now) reply new dues none (inr s) are = all_same old new s.1.after
+event_still roster tests old (world.Deliver peer number) (Reported report) new dues none (inl s) are =
     one_still old new peer
-    (packet_still config peer are.0.bytes (state_of (peer_at old peer)) report dues (state_of (peer_at new peer))
+    (packet_still roster peer are.0.bytes (state_of (peer_at old peer)) report dues (state_of (peer_at new peer))
     are.2)
-    (steps_stays config (tests peer) old peer (event.Deliver s.0.bytes) (Reported report) new s.3).others
-event_still config tests old (world.Deliver peer number) (Reported report) new dues none (inr s) are =
+    (steps_stays roster (tests peer) old peer (event.Deliver s.0.bytes) (Reported report) new s.3).others
+event_still roster tests old (world.Deliver peer number) (Reported report) new dues none (inr s) are =
     all_same old new s.1.after
-event_still config tests old (world.Deliver peer number) reply new dues none s are =
-    all_same old new (not_reported config tests old peer number reply new s (λ p b q h. h))
-event_still config tests old (world.Resume peer k) (Reported report) new dues none (inl s) are =
+event_still roster tests old (world.Deliver peer number) reply new dues none s are =
+    all_same old new (not_reported roster tests old peer number reply new s (λ p b q h. h))
+event_still roster tests old (world.Resume peer k) (Reported report) new dues none (inl s) are =
     one_still old new peer
     (again_still k 0 (own_proxies (peer_at old peer).part k) (state_of (peer_at old peer)) report.moves report.refused
     (state_of (peer_at new peer)) are.1)
-    (steps_stays config (tests peer) old peer (event.Resume k) (Reported report) new s).others
-event_still config tests old (world.Resume peer k) (Reported report) new dues none (inr s) are =
+    (steps_stays roster (tests peer) old peer (event.Resume k) (Reported report) new s).others
+event_still roster tests old (world.Resume peer k) (Reported report) new dues none (inr s) are =
     all_same old new s.1.after
-event_still config tests old (world.Resume peer k) reply new dues none s are =
+event_still roster tests old (world.Resume peer k) reply new dues none s are =
     λ p.
     still_same (peer_at old p).known (peer_at new p).known
-    ((not_resumed config tests old peer k reply new s (λ p q h. h)).1 p)
+    ((not_resumed roster tests old peer k reply new s (λ p q h. h)).1 p)
 
 -- ---- the law
 
@@ -227,11 +227,11 @@ pub opens_answered : (config : Config) → NobodyIsSilent (opening_world config)
 opens_answered config w r =
     ap (λ (k : Known). (k.answered w.number r).silent) (opened_is_fresh config w.peer).known
 
-pub stays_answered : (config : Config) (tests : AllTests) (old : WorldState) (ev : WorldEvent) (reply : Reply)
+pub stays_answered : (roster : Roster) (tests : AllTests) (old : WorldState) (ev : WorldEvent) (reply : Reply)
     (lost : ℕ) (new : WorldState) → GreetsNobody ev → NobodyIsSilent old
-    → RuledStep config tests old ev reply lost new → NobodyIsSilent new
-stays_answered config tests old ev reply lost new none answered h w r =
-    event_still config tests old ev reply new h.dues none h.step h.due w.peer w.number r (answered w r)
+    → RuledStep roster tests old ev reply lost new → NobodyIsSilent new
+stays_answered roster tests old ev reply lost new none answered h w r =
+    event_still roster tests old ev reply new h.dues none h.step h.due w.peer w.number r (answered w r)
 
 -- listeners know nothing of it
 ended_answered : (before : WorldState) (ev : WorldEvent) (after : WorldState) → NobodyIsSilent after
@@ -239,14 +239,14 @@ ended_answered : (before : WorldState) (ev : WorldEvent) (after : WorldState) �
 ended_answered before ev after answered w r =
     ap (λ (k : Known). (k.answered w.number r).silent) ((world_beside before ev after).known w.peer) ∙ answered w r
 
-pub runs_answered : (config : Config) (tests : AllTests) (old : WorldState) (unsent : ℕ) (events : List WorldEvent)
+pub runs_answered : (roster : Roster) (tests : AllTests) (old : WorldState) (unsent : ℕ) (events : List WorldEvent)
     (replies : List Reply) (new : WorldState) (last : ℕ) → NobodyGreeted events → NobodyIsSilent old
-    → RuledRun config tests old unsent events replies new last → NobodyIsSilent new
-runs_answered config tests old unsent [] [] new last none answered run =
+    → RuledRun roster tests old unsent events replies new last → NobodyIsSilent new
+runs_answered roster tests old unsent [] [] new last none answered run =
     subst (λ (x : WorldState). NobodyIsSilent x) (sym run.0) answered
-runs_answered config tests old unsent (e ∷ es) (r ∷ rs) new last none answered run =
-    runs_answered config tests (world_ended old e run.0) run.1 es rs new last none.1
+runs_answered roster tests old unsent (e ∷ es) (r ∷ rs) new last none answered run =
+    runs_answered roster tests (world_ended old e run.0) run.1 es rs new last none.1
     (ended_answered old e run.0
-    (stays_answered config tests old e r run.2.lost run.0 none.0 answered run.2.ruled)) run.3
-runs_answered config tests old unsent [] (r ∷ rs) new last none answered run = absurd run
-runs_answered config tests old unsent (e ∷ es) [] new last none answered run = absurd run
+    (stays_answered roster tests old e r run.2.lost run.0 none.0 answered run.2.ruled)) run.3
+runs_answered roster tests old unsent [] (r ∷ rs) new last none answered run = absurd run
+runs_answered roster tests old unsent (e ∷ es) [] new last none answered run = absurd run

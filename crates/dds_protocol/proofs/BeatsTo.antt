@@ -6,7 +6,7 @@ use Rattle.std.specs.List.{AllByRecursion}
 use Rattle.std.specs.Option.{option_map}
 use Rattle.std.proofs.lemmas.Bool.Decides.{nat_tests}
 use Rattle.std.proofs.lemmas.Option.{same_Some}
-use Rattle.dds_base.specs.declared.config.Config.{Config}
+use Rattle.dds_protocol.specs.Roster.{Roster}
 use Rattle.dds_base.specs.declared.endpoint.Endpoint.{Endpoint}
 use Rattle.dds_base.specs.declared.guid.EntityId.{EntityId}
 use Rattle.dds_base.specs.declared.guid.GuidPrefix.{GuidPrefix}
@@ -21,7 +21,6 @@ use Rattle.rtps_wire.specs.Messages.{IsWritable, spelling_of}
 use Rattle.dds_machine.specs.Part.{Part, ReaderProxy, Writer, same_endpoint, row_of, own_writer, acknowledged_of, writer_changes, heartbeats_used, history_of}
 use Rattle.dds_machine.proofs.Tables.{same_is}
 use Rattle.dds_protocol.specs.Claims.{Receiver, receiver_of, every_reader, Names, StandsAt, StandsIn, Claim, Claims, Says}
-use Rattle.dds_protocol.specs.Receipt.{prefix_of}
 use Rattle.dds_protocol.specs.Contact.{Contact, awaits_heartbeat}
 use Rattle.dds_protocol.specs.DueMessages.{reader_entity, writer_entity, is_told, readers_told, begins_at, ends_at, is_one_for_all, heartbeats_to}
 use Rattle.dds_protocol.proofs.Composed.{front_or_rest, later_in}
@@ -117,22 +116,22 @@ no_ask_read P own to far at ss a all writable there =
     ⊎_elim (λ e. absurd cc) (λ is. is.1) (read_beat P own to far at ss (AckNack a) all writable there)
 
 -- what the message claims, one of them says
-pub record BeatSays (config : Config) (own to : GuidPrefix) (P : HeartbeatBody → Type 0) (claim : Claim) : Type 0 where
+pub record BeatSays (roster : Roster) (own to : GuidPrefix) (P : HeartbeatBody → Type 0) (claim : Claim) : Type 0 where
   pub far : GuidPrefix
   pub body : HeartbeatBody
   pub is : P body
-  pub says : Says config far (addressed own to) (Heartbeat body) claim
+  pub says : Says roster far (addressed own to) (Heartbeat body) claim
 
-pub beat_says : (config : Config) (own to : GuidPrefix) (P : HeartbeatBody → Type 0) (ss : List Submessage)
+pub beat_says : (roster : Roster) (own to : GuidPrefix) (P : HeartbeatBody → Type 0) (ss : List Submessage)
     (claim : Claim) → AreBeats P ss → IsWritable (message_to own to ss)
-    → Claims config (spelling_of (message_to own to ss)) claim → BeatSays config own to P claim
-beat_says config own to P ss claim all writable h =
-    let t = told_to config own to ss claim writable h in
+    → Claims roster (spelling_of (message_to own to ss)) claim → BeatSays roster own to P claim
+beat_says roster own to P ss claim all writable h =
+    let t = told_to roster own to ss claim writable h in
     let is = stands_beat P t.far (addressed own to) ss t.index t.at t.submessage all t.stands in
-    by t.far t.submessage is.1 (subst (λ (r : Receiver). Says config t.far r t.submessage claim) is.0 t.says)
+    by t.far t.submessage is.1 (subst (λ (r : Receiver). Says roster t.far r t.submessage claim) is.0 t.says)
   where
-    by : (far : GuidPrefix) (s : Submessage) → IsBeat P s → Says config far (addressed own to) s claim
-        → BeatSays config own to P claim
+    by : (far : GuidPrefix) (s : Submessage) → IsBeat P s → Says roster far (addressed own to) s claim
+        → BeatSays roster own to P claim
     by far (Heartbeat body) is says = record { far = far; body = body; is = is; says = says }
     by far other is says = absurd is
 
@@ -152,72 +151,72 @@ beat_body final liveliness reader writer first last w = record {
 
 -- to all readers, from the first kept number to the last; or by name to one at this peer, from where that one begins to
 -- where it ends
-abbrev pub IsToSome : Config → (Endpoint → Contact) → Writer → ℕ → EntityId → ℕ → ℕ → Type 0
-IsToSome config contacts w to reader first last =
+abbrev pub IsToSome : Roster → (Endpoint → Contact) → Writer → ℕ → EntityId → ℕ → ℕ → Type 0
+IsToSome roster contacts w to reader first last =
     ((reader ≡ every_reader) × (first ≡ first_kept (history_of w)) × (last ≡ length (writer_changes w)))
-    ⊎ ((r : Endpoint) × (r.peer ≡ to) × (reader ≡ reader_entity config r.peer r.number) × (first ≡ begins_at w r)
+    ⊎ ((r : Endpoint) × (r.peer ≡ to) × (reader ≡ reader_entity roster r.peer r.number) × (first ≡ begins_at w r)
     × (last ≡ ends_at contacts w r))
 
 -- the HEARTBEAT is such a one of the peer's writer of this number
-pub record IsBeatTo (config : Config) (final liveliness : Bool) (peer number : ℕ) (contacts : Endpoint → Contact)
+pub record IsBeatTo (roster : Roster) (final liveliness : Bool) (peer number : ℕ) (contacts : Endpoint → Contact)
     (w : Writer) (to : ℕ) (h : HeartbeatBody) : Type 0 where
-  pub is : h ≡ beat_body final liveliness h.reader_id (writer_entity config peer number) h.first_sn h.last_sn w
-  pub whom : IsToSome config contacts w to h.reader_id h.first_sn h.last_sn
+  pub is : h ≡ beat_body final liveliness h.reader_id (writer_entity roster peer number) h.first_sn h.last_sn w
+  pub whom : IsToSome roster contacts w to h.reader_id h.first_sn h.last_sn
 
 -- so is each of those to this peer's readers
-pub are_beats : (config : Config) (final liveliness : Bool) (peer number : ℕ) (contacts : Endpoint → Contact)
+pub are_beats : (roster : Roster) (final liveliness : Bool) (peer number : ℕ) (contacts : Endpoint → Contact)
     (w : Writer) (readers : List Endpoint) (to : ℕ)
-    → AreBeats (IsBeatTo config final liveliness peer number contacts w to)
-    (heartbeats_to config final liveliness peer number contacts w readers to)
-are_beats config final liveliness peer number contacts w readers to = by (is_one_for_all contacts w to)
+    → AreBeats (IsBeatTo roster final liveliness peer number contacts w to)
+    (heartbeats_to roster final liveliness peer number contacts w readers to)
+are_beats roster final liveliness peer number contacts w readers to = by (is_one_for_all contacts w to)
   where
     entity : EntityId
-    entity = writer_entity config peer number
+    entity = writer_entity roster peer number
 
     body : Endpoint → HeartbeatBody
     body r =
-        beat_body final liveliness (reader_entity config r.peer r.number) entity (begins_at w r) (ends_at contacts w r)
+        beat_body final liveliness (reader_entity roster r.peer r.number) entity (begins_at w r) (ends_at contacts w r)
         w
 
     at_peer : (r : Endpoint) → (r.peer == to) ≡ true
-        → IsBeatTo config final liveliness peer number contacts w to (body r)
+        → IsBeatTo roster final liveliness peer number contacts w to (body r)
     at_peer r is = record { is = refl; whom = inr (r, eqb-true r.peer to is, refl, refl, refl) }
 
-    by : (b : Bool) → AreBeats (IsBeatTo config final liveliness peer number contacts w to)
+    by : (b : Bool) → AreBeats (IsBeatTo roster final liveliness peer number contacts w to)
         (if b then Heartbeat (beat_body final liveliness every_reader entity (first_kept (history_of w))
         (length (writer_changes w)) w) ∷ []
         else map (λ (r : Endpoint). Heartbeat (body r)) (filter (λ (r : Endpoint). r.peer == to) readers))
     by true = (record { is = refl; whom = inl (refl, refl, refl) }, tt)
     by false =
-        beats_filter (IsBeatTo config final liveliness peer number contacts w to) body (λ (r : Endpoint). r.peer == to)
+        beats_filter (IsBeatTo roster final liveliness peer number contacts w to) body (λ (r : Endpoint). r.peer == to)
         at_peer readers
 
 -- ---- those of a tick
 
 -- the next HEARTBEAT of the peer's writer of this number, to readers of this entity id, from this number to that
-abbrev pub beat_of : Config → ℕ → Part → ℕ → EntityId → ℕ → ℕ → HeartbeatBody
-beat_of config peer part number reader_id first last =
-    beat_body false false reader_id (writer_entity config peer number) first last (own_writer part number)
+abbrev pub beat_of : Roster → ℕ → Part → ℕ → EntityId → ℕ → ℕ → HeartbeatBody
+beat_of roster peer part number reader_id first last =
+    beat_body false false reader_id (writer_entity roster peer number) first last (own_writer part number)
 
 -- those to this peer's readers that are behind, ask for one, or are silent
-abbrev pub beats_to : Config → (ℕ → Endpoint → Contact) → ℕ → Part → ℕ → ℕ → List Submessage
-beats_to config contacts peer part number to =
-    heartbeats_to config false false peer number (contacts number) (own_writer part number)
+abbrev pub beats_to : Roster → (ℕ → Endpoint → Contact) → ℕ → Part → ℕ → ℕ → List Submessage
+beats_to roster contacts peer part number to =
+    heartbeats_to roster false false peer number (contacts number) (own_writer part number)
     (readers_told (contacts number) (own_writer part number)) to
 
-abbrev pub beat_message : Config → (ℕ → Endpoint → Contact) → ℕ → Part → ℕ → ℕ → Message
-beat_message config contacts peer part number to =
-    message_to (prefix_of config peer) (prefix_of config to) (beats_to config contacts peer part number to)
+abbrev pub beat_message : Roster → (ℕ → Endpoint → Contact) → ℕ → Part → ℕ → ℕ → Message
+beat_message roster contacts peer part number to =
+    message_to (roster.prefix peer) (roster.prefix to) (beats_to roster contacts peer part number to)
 
 -- each of them is such a one
-abbrev pub IsBeatOf : Config → (ℕ → Endpoint → Contact) → ℕ → Part → ℕ → ℕ → HeartbeatBody → Type 0
-IsBeatOf config contacts peer part number to h =
-    IsBeatTo config false false peer number (contacts number) (own_writer part number) to h
+abbrev pub IsBeatOf : Roster → (ℕ → Endpoint → Contact) → ℕ → Part → ℕ → ℕ → HeartbeatBody → Type 0
+IsBeatOf roster contacts peer part number to h =
+    IsBeatTo roster false false peer number (contacts number) (own_writer part number) to h
 
-pub beats_are : (config : Config) (contacts : ℕ → Endpoint → Contact) (peer : ℕ) (part : Part) (number to : ℕ)
-    → AreBeats (IsBeatOf config contacts peer part number to) (beats_to config contacts peer part number to)
-beats_are config contacts peer part number to =
-    are_beats config false false peer number (contacts number) (own_writer part number)
+pub beats_are : (roster : Roster) (contacts : ℕ → Endpoint → Contact) (peer : ℕ) (part : Part) (number to : ℕ)
+    → AreBeats (IsBeatOf roster contacts peer part number to) (beats_to roster contacts peer part number to)
+beats_are roster contacts peer part number to =
+    are_beats roster false false peer number (contacts number) (own_writer part number)
     (readers_told (contacts number) (own_writer part number)) to
 
 -- ---- who is told
@@ -283,17 +282,17 @@ reader_told contacts w r a h low =
     small = let same = f.acknowledged in grind (arith, nat_tests, same, low)
 
 -- one of the HEARTBEATs to its peer names it
-pub record NamedBeat (config : Config) (contacts : ℕ → Endpoint → Contact) (peer : ℕ) (part : Part) (number : ℕ)
+pub record NamedBeat (roster : Roster) (contacts : ℕ → Endpoint → Contact) (peer : ℕ) (part : Part) (number : ℕ)
     (reader : Endpoint) : Type 0 where
   pub body : HeartbeatBody
-  pub among : Contains (beats_to config contacts peer part number reader.peer) (Heartbeat body)
-  pub named : Names body.reader_id (reader_entity config reader.peer reader.number)
+  pub among : Contains (beats_to roster contacts peer part number reader.peer) (Heartbeat body)
+  pub named : Names body.reader_id (reader_entity roster reader.peer reader.number)
 
-pub named_beat : (config : Config) (contacts : ℕ → Endpoint → Contact) (peer : ℕ) (part : Part) (number : ℕ)
+pub named_beat : (roster : Roster) (contacts : ℕ → Endpoint → Contact) (peer : ℕ) (part : Part) (number : ℕ)
     (reader : Endpoint) (a : ℕ)
     → acknowledged_of (own_writer part number).readers reader ≡ Some a
-    → a ≤ length (writer_changes (own_writer part number)) → NamedBeat config contacts peer part number reader
-named_beat config contacts peer part number reader a row low =
+    → a ≤ length (writer_changes (own_writer part number)) → NamedBeat roster contacts peer part number reader
+named_beat roster contacts peer part number reader a row low =
     by (is_one_for_all (contacts number) w reader.peer) (λ b among named. record {
       body = b;
       among = among;
@@ -308,11 +307,11 @@ named_beat config contacts peer part number reader a row low =
 
     body : Endpoint → HeartbeatBody
     body r =
-        beat_of config peer part number (reader_entity config r.peer r.number) (begins_at w r)
+        beat_of roster peer part number (reader_entity roster r.peer r.number) (begins_at w r)
         (ends_at (contacts number) w r)
 
     all : HeartbeatBody
-    all = beat_of config peer part number every_reader (first_kept (history_of w)) (length (writer_changes w))
+    all = beat_of roster peer part number every_reader (first_kept (history_of w)) (length (writer_changes w))
 
     beats : Bool → List Submessage
     beats b =
@@ -320,9 +319,9 @@ named_beat config contacts peer part number reader a row low =
 
     by : (b : Bool)
         → ((x : HeartbeatBody) → Contains (beats b) (Heartbeat x)
-        → Names x.reader_id (reader_entity config reader.peer reader.number)
-        → NamedBeat config contacts peer part number reader)
-        → NamedBeat config contacts peer part number reader
+        → Names x.reader_id (reader_entity roster reader.peer reader.number)
+        → NamedBeat roster contacts peer part number reader)
+        → NamedBeat roster contacts peer part number reader
     by true make =
         make all (0, omega arith, refl) (inr refl)
     by false make =

@@ -4,7 +4,7 @@ use Rattle.std.specs.Prelude.{◌↔◌, IsSome, is_some}
 use Rattle.std.specs.Option.{option_map}
 use Rattle.std.proofs.Math.Nat.{min-le_left}
 use Rattle.dds_base.specs.declared.change.Change.{Change}
-use Rattle.dds_base.specs.declared.config.Config.{Config}
+use Rattle.dds_protocol.specs.Roster.{Roster}
 use Rattle.dds_base.specs.Kept.{is_dropped}
 use Rattle.dds_base.specs.Matched.{is_reliable}
 use Rattle.dds_base.proofs.PlaceLaws.{SayAsMuch, goes_on}
@@ -293,10 +293,10 @@ no_more (Some a) owed None all placed (inl h) = absurd (placed refl)
 no_more (Some a) owed (Some p) all placed (inl h) =
     let least = placed refl in let most = all refl in omega (arith, least, most, h)
 
-pub acknowledges_no_more : (config : Config) (world : WorldState) (w r : Endpoint) → Sound config world
+pub acknowledges_no_more : (roster : Roster) (world : WorldState) (w r : Endpoint) → Sound roster world
     → IsClosed (machine_of world)
     → NoLess (acknowledged_of (writer_at (machine_of world) w).readers r) (place_at (machine_of world) r w)
-acknowledges_no_more config world w r sound c =
+acknowledges_no_more roster world w r sound c =
     let m : Machine = machine_of world in
     no_more (acknowledged_of (writer_at m w).readers r) (owed_from (writer_at m w) r) (place_at m r w)
     (λ has. owed_all m c w r has) (λ has. c.placed w r has) (sound.acknowledged w r)

@@ -2,7 +2,7 @@
 use Rattle.std.specs.Prelude.{◌≤ℤ◌, min, nat_le, nat_lt}
 use Rattle.std.specs.Option.{option_map}
 use Rattle.std.proofs.lemmas.Bool.Decides.{nat_tests}
-use Rattle.std.proofs.Common.{◌≡◌, ℕ, ℤ, pos, negsuc, zero, suc, ◌+◌, ◌-◌, ◌<◌, ◌≤◌, ◌==◌, ◌&&◌, Bool, true, false, cond, Option, Some, None, ◌⊎◌, List, [], ◌∷◌, ◌++◌, refl, subst, ap, sym, ◌∙◌, inl, inr, ⊎_elim, arith, length, get_or, map, slice_get, Contains, length-append}
+use Rattle.std.proofs.Common.{◌≡◌, ℕ, ℤ, pos, negsuc, zero, suc, ◌+◌, ◌-◌, ◌<◌, ◌≤◌, ◌&&◌, Bool, true, false, cond, Option, Some, None, ◌⊎◌, List, [], ◌∷◌, ◌++◌, refl, subst, ap, sym, ◌∙◌, inl, inr, ⊎_elim, arith, length, get_or, map, slice_get, Contains, length-append}
 use Rattle.std.proofs.lemmas.List.{length-map, map-append}
 use Rattle.std.proofs.Math.Nat.{le-min}
 use Rattle.std.proofs.lemmas.Option.{same_Some}
@@ -10,26 +10,25 @@ use Rattle.dds_base.specs.declared.change.Change.{Change}
 use Rattle.dds_base.specs.declared.config.Config.{Config}
 use Rattle.dds_base.specs.declared.config.PeerConfig.{PeerConfig}
 use Rattle.dds_base.specs.declared.config.ReaderConfig.{ReaderConfig}
-use Rattle.dds_base.specs.declared.config.WriterConfig.{WriterConfig}
 use Rattle.dds_base.specs.declared.endpoint.Endpoint.{Endpoint}
 use Rattle.dds_base.specs.Kept.{change_at, is_dropped}
-use Rattle.dds_base.specs.Matched.{is_reliable_reader, same_topic}
+use Rattle.dds_base.specs.declared.qos.ReliabilityQos.{ReliabilityQos}
+use Rattle.dds_base.specs.Matched.{is_reliable, is_reliable_reader, same_topic}
 use Rattle.dds_base.specs.Written.{Written, changes_of, counts_of}
 use Rattle.dds_machine.specs.Machine.{Machine, part_at, place_at, writer_at}
 use Rattle.dds_machine.specs.Numbered.{HasNumber, numbered}
-use Rattle.dds_machine.specs.Opening.{coming_part, machine_with_peer, matched_writers, reader_from, reliable_readers, writer_from}
-use Rattle.dds_machine.specs.Part.{IsAtMost, IsBelow, IsCovered, NoLess, Part, Reader, ReaderProxy, Writer, WriterProxy, acknowledged_of, heartbeats_used, history_of, is_assertion, no_part, no_reader, no_writer, own_proxies, own_reader, own_writer, owed_from, place_of, row_of, same_endpoint, writer_changes}
+use Rattle.dds_machine.specs.Opening.{coming_part, matched_writers, reader_from, reliable_readers, writer_from}
+use Rattle.dds_machine.specs.Part.{IsBelow, IsCovered, NoLess, Part, Reader, ReaderProxy, Writer, WriterProxy, acknowledged_of, heartbeats_used, history_of, is_assertion, no_part, no_reader, no_writer, own_proxies, own_reader, own_writer, owed_from, place_of, row_of, same_endpoint, writer_changes}
 use Rattle.dds_machine.proofs.Tables.{at_most_on, below_on, no_less_same}
-use Rattle.dds_protocol.specs.declared.event.Packet.{Packet}
-use Rattle.dds_protocol.specs.Bounds.{IsBounded}
 use Rattle.dds_protocol.specs.Claims.{Asserts, ChangeIs, Claim, IsNumbered, MayPass, PlaceReached}
 use Rattle.dds_protocol.specs.Coming.{ComesAsPart, ComesBounded, ComesSound, ComesUsed, IsNext, coming_peer, world_with_peer}
 use Rattle.dds_protocol.specs.Dues.{IsPartOf}
-use Rattle.dds_protocol.specs.Fresh.{HasUsedCounts}
-use Rattle.dds_protocol.specs.Peer.{Delivery, Peer, no_peer}
-use Rattle.dds_protocol.specs.Protocol.{Known, knows_nothing}
-use Rattle.dds_protocol.specs.World.{Holds, Sound, WorldState, machine_of, peer_at}
+use Rattle.dds_protocol.specs.Peer.{Peer, no_peer}
+use Rattle.dds_protocol.specs.Protocol.{Known}
+use Rattle.dds_protocol.specs.Roster.{Roster, roster_of}
+use Rattle.dds_protocol.specs.World.{Holds, WorldState, machine_of, peer_at}
 use Rattle.dds_protocol.proofs.Composed.{parts_at}
+use Rattle.dds_protocol.proofs.Listed.{lists_reader, part_of_peer, reliable_is}
 use Rattle.dds_protocol.proofs.Opened.{mapped_is, readers_in}
 use Rattle.dds_protocol.proofs.OpenedPeers.{AreFresh, fresh_place, fresh_rows}
 use Rattle.dds_protocol.proofs.Owing.{Covered, covered_on, first_or, owed_within}
@@ -326,33 +325,36 @@ comes_sound roster world p sound next =
           (peer_more world p i);
       acknowledged = λ w r. subst (λ (x : Machine). Covered (writer_at x w) r (place_at x r w)) (sym is)
           (still_covered m part (the_idle world p) w r (sound.acknowledged w r));
-      policies = λ i k q r lt here there.
-          ap (λ (x : Part). (own_reader x k).qos.reliability) (parts_at new i)
+      policies = λ r entity lt at.
+          let x = lists_reader roster r entity at in
+          let k : ℕ = r.number in
+          ap (λ (y : Part). is_reliable (own_reader y k).qos.reliability) (parts_at new r.peer)
           ∙ ⊎_elim
           (λ before.
-          ap (λ (x : Peer). (own_reader x.part k).qos.reliability)
-          (numbered_before world.peers (the_peer world p) i no_peer before)
-          ∙ (ap (λ (x : Part). (own_reader x k).qos.reliability) (sym (parts_at world i))
-          ∙ sound.policies i k q r before here there))
+          ap (λ (y : Peer). is_reliable (own_reader y.part k).qos.reliability)
+          (numbered_before world.peers (the_peer world p) r.peer no_peer before)
+          ∙ (ap (λ (y : Part). is_reliable (own_reader y k).qos.reliability) (sym (parts_at world r.peer))
+          ∙ sound.policies r entity before at))
           (λ last.
-          let same : p ≡ q =
-          same_Some p q (sym next.1 ∙ (ap (λ (n : ℕ). slice_get roster.peers (n - 1)) (sym last) ∙ here.1)) in
-          ap (λ (x : Peer). (own_reader x.part k).qos.reliability)
-          (numbered_last world.peers (the_peer world p) i no_peer last)
-          ∙ coming_policies (length world.peers + 1) p k r
-          (subst (λ (x : PeerConfig). IsNumbered x.readers k r) (sym same) there))
-          (has_more world p i lt);
+          let same : p ≡ x.stands.peer =
+          same_Some p x.stands.peer
+          (sym next.1 ∙ (ap (λ (n : ℕ). slice_get roster.peers (n - 1)) (sym last) ∙ x.stands.at_peer.1)) in
+          ap (λ (y : Peer). is_reliable (own_reader y.part k).qos.reliability)
+          (numbered_last world.peers (the_peer world p) r.peer no_peer last)
+          ∙ (ap (λ (q : ReliabilityQos). is_reliable q)
+          (coming_policies (length world.peers + 1) p k x.end
+          (subst (λ (y : PeerConfig). IsNumbered y.readers k x.end) (sym same) x.stands.at_end))
+          ∙ sym (reliable_is roster r x.stands.peer x.end x.stands.at_peer x.stands.at_end)))
+          (has_more world p r.peer lt);
     }
 
 -- ---- counts
 
 coming_of : (roster : Config) (world : WorldState) (p : PeerConfig) → IsNext roster world p
-    → IsPartOf roster (length world.peers + 1) (coming_part (length world.peers + 1) p)
-coming_of roster world p next = record {
-  here = p;
-  at = next;
-  writers = length-map p.writers (writer_from (length world.peers + 1) (p ∷ []));
-}
+    → IsPartOf (roster_of roster) (length world.peers + 1) (coming_part (length world.peers + 1) p)
+coming_of roster world p next =
+    part_of_peer roster (length world.peers + 1) p (coming_part (length world.peers + 1) p) next
+    (length-map p.writers (writer_from (length world.peers + 1) (p ∷ [])))
 
 -- what it knows is nothing, as what a peer knows that is not there
 known_more : (world : WorldState) (p : PeerConfig) (i : ℕ)
@@ -381,13 +383,14 @@ comes_used roster world p used next =
     ≡ ((peer_at world r.peer).known.tracked w r.number).acknacks =
     λ w r. ap (λ (k : Known). (k.tracked w r.number).acknacks) (known_more world p r.peer) in
     record {
-      of_config = λ i lt.
+      of_roster = λ i lt.
+          let is : Roster = roster_of roster in
           ⊎_elim
-          (λ there. subst (λ (x : Peer). IsPartOf roster i x.part)
-          (sym (numbered_before world.peers (the_peer world p) i no_peer there)) (used.of_config i there))
-          (λ last. subst (λ (x : Peer). IsPartOf roster i x.part)
+          (λ there. subst (λ (x : Peer). IsPartOf is i x.part)
+          (sym (numbered_before world.peers (the_peer world p) i no_peer there)) (used.of_roster i there))
+          (λ last. subst (λ (x : Peer). IsPartOf is i x.part)
           (sym (numbered_last world.peers (the_peer world p) i no_peer last))
-          (subst (λ (n : ℕ). IsPartOf roster n (coming_part (length world.peers + 1) p)) (sym last)
+          (subst (λ (n : ℕ). IsPartOf is n (coming_part (length world.peers + 1) p)) (sym last)
           (coming_of roster world p next)))
           (has_more world p i lt);
       heartbeat_sent = λ q w count c h.

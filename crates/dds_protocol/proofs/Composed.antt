@@ -6,12 +6,9 @@ use Rattle.std.proofs.lemmas.Option.{same_Some, slice_get_within}
 use Rattle.std.proofs.lemmas.List.Elements.{Contains-append_cases}
 use Rattle.dds_base.specs.declared.change.Change.{Change}
 use Rattle.dds_base.specs.declared.code.Code.{Code}
-use Rattle.dds_base.specs.declared.config.Config.{Config}
-use Rattle.dds_base.specs.declared.config.PeerConfig.{PeerConfig}
-use Rattle.dds_base.specs.declared.config.ReaderConfig.{ReaderConfig}
+use Rattle.dds_protocol.specs.Roster.{Roster}
 use Rattle.dds_base.specs.declared.qos.ReaderQos.{ReaderQos}
 use Rattle.dds_base.specs.Places.{WriterGrounds, MayPassOver}
-use Rattle.dds_base.specs.declared.qos.ReliabilityQos.{ReliabilityQos}
 use Rattle.dds_base.specs.Kept.{change_at, is_dropped}
 use Rattle.dds_base.specs.Matched.{is_reliable}
 use Rattle.dds_base.specs.declared.endpoint.Endpoint.{Endpoint}
@@ -34,13 +31,13 @@ use Rattle.dds_machine.specs.Numbered.{with_numbered, HasNumber}
 use Rattle.dds_machine.specs.Part.{Writer, WriterProxy, Part, no_part, no_writer, own_writer, own_proxies, own_reader, acknowledged_of, with_acknowledged, owed_from, place_of, writer_changes, history_of, is_assertion, IsBelow, IsAtMost, IsCovered, NoLess}
 use Rattle.dds_base.proofs.PlaceLaws.{SayAsMuch, goes_on}
 use Rattle.dds_machine.specs.Moves.{Grounds, as_to, match_of, position_at, IsMove, AreMoves, DeliveryStep, ResumeStep}
-use Rattle.dds_protocol.specs.Receipt.{HasNoRoom, MovesOver, TakesUp, Receives, prefix_of}
+use Rattle.dds_protocol.specs.Receipt.{HasNoRoom, MovesOver, TakesUp, Receives}
 use Rattle.dds_protocol.specs.Progress.{ReceivesIn, Progresses}
 use Rattle.dds_machine.specs.Ticks.{TickStep}
 use Rattle.dds_machine.specs.Calls.{CallStep}
 use Rattle.dds_machine.specs.Matching.{Telling, TellStep}
 use Rattle.dds_machine.specs.Watching.{Tests}
-use Rattle.dds_protocol.specs.Claims.{Receiver, after_submessage, receiver_of, IsNumbered, IsToReliable, Says, Claim, ChangeIs, MayPass, PlaceReached, Asserts, Claims, Claimed}
+use Rattle.dds_protocol.specs.Claims.{Receiver, after_submessage, receiver_of, IsToReliable, Says, Claim, ChangeIs, MayPass, PlaceReached, Asserts, Claims, Claimed}
 use Rattle.dds_protocol.specs.DueMessages.{was_asked}
 use Rattle.dds_protocol.specs.Peer.{Peer, Delivery, PeerStep, EventStep, no_peer, claimed, claimed_by, packets_of, IsTrueAt}
 use Rattle.dds_machine.specs.Machine.{Machine, AllTests, part_at, writer_at, place_at, grounds_of, AtPeer, Step, IsRefused}
@@ -52,48 +49,47 @@ use Rattle.dds_protocol.proofs.Policies.{call_qos, tick_qos, delivery_qos, moves
 use Rattle.dds_protocol.proofs.Resumed.{as_moves}
 use Rattle.dds_protocol.proofs.Growth.{Grows, IsMove-grows, AreMoves-grows, DeliveryStep-grows, CallStep-grows, CallStep-readers, TickStep-acknowledged, TickStep-grows, MachineGrows, with_part, with_part-grows, Holds-grows}
 
-abbrev pub AllHold : Config → Machine → List (List ℕ) → Type 0
-AllHold config m packets =
-    (bytes : List ℕ) (claim : Claim) → Contains packets bytes → Claims config bytes claim → Holds m claim
+abbrev pub AllHold : Roster → Machine → List (List ℕ) → Type 0
+AllHold roster m packets =
+    (bytes : List ℕ) (claim : Claim) → Contains packets bytes → Claims roster bytes claim → Holds m claim
 
 abbrev pub at : ℕ → ℕ → Endpoint
 at peer number = record { peer = peer; number = number }
 
-holds_claimed : (config : Config) (m : Machine) (packets : List (List ℕ)) → AllHold config m packets → (c : Claim)
-    → Claimed config packets c → Holds m c
-holds_claimed config m packets all c h = all h.packet c h.among h.claims
+holds_claimed : (roster : Roster) (m : Machine) (packets : List (List ℕ)) → AllHold roster m packets → (c : Claim)
+    → Claimed roster packets c → Holds m c
+holds_claimed roster m packets all c h = all h.packet c h.among h.claims
 
--- each reader of the peers that are there is as reliable as the configuration says
-abbrev pub KeepsPolicies : Config → Machine → Type 0
-KeepsPolicies config m =
-    (peer number : ℕ) (p : PeerConfig) (r : ReaderConfig) → HasNumber m.parts peer → IsNumbered config.peers peer p
-    → IsNumbered p.readers number r → (own_reader (part_at m peer) number).qos.reliability ≡ r.reliability
+-- each reader of the peers that are there is as reliable as the roster says
+abbrev pub KeepsPolicies : Roster → Machine → Type 0
+KeepsPolicies roster m =
+    (reader : Endpoint) (entity : EntityId) → HasNumber m.parts reader.peer → roster.readers reader ≡ Some entity
+    → is_reliable (own_reader (part_at m reader.peer) reader.number).qos.reliability ≡ roster.is_reliable reader
 
 -- the reader, of which a packet says what it may pass over, is a reliable one, and is told of a change's number
 abbrev IsTold : Machine → Endpoint → ℕ → Type 0
 IsTold m r n = (is_reliable (own_reader (part_at m r.peer) r.number).qos.reliability ≡ true) × (1 ≤ n)
 
-reliable_one : (config : Config) (m : Machine) → KeepsPolicies config m → (own : GuidPrefix) (receiver : Receiver)
+reliable_one : (roster : Roster) (m : Machine) → KeepsPolicies roster m → (own : GuidPrefix) (receiver : Receiver)
     (reader_id writer_id : EntityId) (w r : Endpoint) → HasNumber m.parts r.peer
-    → IsToReliable config own receiver reader_id writer_id w r
+    → IsToReliable roster own receiver reader_id writer_id w r
     → is_reliable (own_reader (part_at m r.peer) r.number).qos.reliability ≡ true
-reliable_one config m keeps own receiver reader_id writer_id w r there h =
-    let to = h.is_to.to in
-    ap (λ (k : ReliabilityQos). is_reliable k) (keeps r.peer r.number to.peer to.end there to.at_peer to.at_reader) ∙ h.reliable
+reliable_one roster m keeps own receiver reader_id writer_id w r there h =
+    keeps r h.is_to.entity there h.is_to.to.at_reader ∙ h.reliable
 
-is_told : (config : Config) (m : Machine) → KeepsPolicies config m → (own : GuidPrefix) (receiver : Receiver)
-    (s : Submessage) (w r : Endpoint) (n : ℕ) → HasNumber m.parts r.peer → Says config own receiver s (MayPass w r n)
+is_told : (roster : Roster) (m : Machine) → KeepsPolicies roster m → (own : GuidPrefix) (receiver : Receiver)
+    (s : Submessage) (w r : Endpoint) (n : ℕ) → HasNumber m.parts r.peer → Says roster own receiver s (MayPass w r n)
     → IsTold m r n
-is_told config m keeps own receiver (Gap g) w r n there h =
-    (reliable_one config m keeps own receiver g.reader_id g.writer_id w r there h.0, h.1)
-is_told config m keeps own receiver (Heartbeat g) w r n there h =
-    (reliable_one config m keeps own receiver g.reader_id g.writer_id w r there h.0, h.1)
-is_told config m keeps own receiver s w r n there h = absurd h
+is_told roster m keeps own receiver (Gap g) w r n there h =
+    (reliable_one roster m keeps own receiver g.reader_id g.writer_id w r there h.0, h.1)
+is_told roster m keeps own receiver (Heartbeat g) w r n there h =
+    (reliable_one roster m keeps own receiver g.reader_id g.writer_id w r there h.0, h.1)
+is_told roster m keeps own receiver s w r n there h = absurd h
 
-told_claimed : (config : Config) (m : Machine) (packets : List (List ℕ)) → KeepsPolicies config m → (w r : Endpoint)
-    (n : ℕ) → HasNumber m.parts r.peer → Claimed config packets (MayPass w r n) → IsTold m r n
-told_claimed config m packets keeps w r n there h =
-    is_told config m keeps h.claims.own h.claims.at h.claims.submessage w r n there h.claims.says
+told_claimed : (roster : Roster) (m : Machine) (packets : List (List ℕ)) → KeepsPolicies roster m → (w r : Endpoint)
+    (n : ℕ) → HasNumber m.parts r.peer → Claimed roster packets (MayPass w r n) → IsTold m r n
+told_claimed roster m packets keeps w r n there h =
+    is_told roster m keeps h.claims.own h.claims.at h.claims.submessage w r n there h.claims.says
 
 -- what a delivery rests on at the peer of this number is true
 record AreTrue (m : Machine) (i : ℕ) (g : Grounds) : Type 0 where
@@ -103,26 +99,26 @@ record AreTrue (m : Machine) (i : ℕ) (g : Grounds) : Type 0 where
   place : (w : ℕ) (r : Endpoint) (base : ℕ) → g.has_place w r base → Holds m (PlaceReached (at i w) r base)
   hear : (w : Endpoint) (r : ℕ) (count : ℤ) → g.may_hear w r count → Holds m (Asserts w (at i r) count)
 
-claimed-true : (config : Config) (m : Machine) (i : ℕ) (before : List Delivery) (packet : List ℕ)
+claimed-true : (roster : Roster) (m : Machine) (i : ℕ) (before : List Delivery) (packet : List ℕ)
     (rows : List (List WriterProxy)) (index : ℕ)
-    → HasNumber m.parts i → KeepsPolicies config m → AllHold config m (packet ∷ packets_of before)
-    → AreTrue m i (claimed config before packet rows i index)
-claimed-true config m i before packet rows index there keeps all = record {
-  change = λ w r n c h. holds_claimed config m (packet ∷ packets_of before) all (ChangeIs w (at i r) n c) h;
-  pass = λ w r n h. holds_claimed config m (packet ∷ packets_of before) all (MayPass w (at i r) n) h;
-  told = λ w r n h. told_claimed config m (packet ∷ packets_of before) keeps w (at i r) n there h;
-  place = λ w r base h. holds_claimed config m (packet ∷ packets_of before) all (PlaceReached (at i w) r base) h;
-  hear = λ w r count h. holds_claimed config m (packet ∷ packets_of before) all (Asserts w (at i r) count) h.0;
+    → HasNumber m.parts i → KeepsPolicies roster m → AllHold roster m (packet ∷ packets_of before)
+    → AreTrue m i (claimed roster before packet rows i index)
+claimed-true roster m i before packet rows index there keeps all = record {
+  change = λ w r n c h. holds_claimed roster m (packet ∷ packets_of before) all (ChangeIs w (at i r) n c) h;
+  pass = λ w r n h. holds_claimed roster m (packet ∷ packets_of before) all (MayPass w (at i r) n) h;
+  told = λ w r n h. told_claimed roster m (packet ∷ packets_of before) keeps w (at i r) n there h;
+  place = λ w r base h. holds_claimed roster m (packet ∷ packets_of before) all (PlaceReached (at i w) r base) h;
+  hear = λ w r count h. holds_claimed roster m (packet ∷ packets_of before) all (Asserts w (at i r) count) h.0;
 }
 
 -- so is what places that are tried again rest on
-claimed_by-true : (config : Config) (m : Machine) (i : ℕ) (packets : List (List ℕ)) → HasNumber m.parts i
-    → KeepsPolicies config m → AllHold config m packets → AreTrue m i (claimed_by config packets i)
-claimed_by-true config m i packets there keeps all = record {
-  change = λ w r n c h. holds_claimed config m packets all (ChangeIs w (at i r) n c) h;
-  pass = λ w r n h. holds_claimed config m packets all (MayPass w (at i r) n) h;
-  told = λ w r n h. told_claimed config m packets keeps w (at i r) n there h;
-  place = λ w r base h. holds_claimed config m packets all (PlaceReached (at i w) r base) h;
+claimed_by-true : (roster : Roster) (m : Machine) (i : ℕ) (packets : List (List ℕ)) → HasNumber m.parts i
+    → KeepsPolicies roster m → AllHold roster m packets → AreTrue m i (claimed_by roster packets i)
+claimed_by-true roster m i packets there keeps all = record {
+  change = λ w r n c h. holds_claimed roster m packets all (ChangeIs w (at i r) n c) h;
+  pass = λ w r n h. holds_claimed roster m packets all (MayPass w (at i r) n) h;
+  told = λ w r n h. told_claimed roster m packets keeps w (at i r) n there h;
+  place = λ w r base h. holds_claimed roster m packets all (PlaceReached (at i w) r base) h;
   hear = λ w r count h. absurd h;
 }
 
@@ -252,28 +248,28 @@ no_room-sound : (m : Machine) (i : ℕ) (g : Grounds) → AreTrue m i g → (par
 no_room-sound m i g t part w r p n h =
     record { change = h.change; is_change = t.change w r n h.change h.is_change; no_room = h.no_room }
 
-abbrev InMachine : Config → Machine → ℕ → GuidPrefix → ℕ → Receiver → List Submessage → Part → List Move → Option ℕ
+abbrev InMachine : Roster → Machine → ℕ → GuidPrefix → ℕ → Receiver → List Submessage → Part → List Move → Option ℕ
     → Part → Type 0
-InMachine config m i own index at ss old moves refused new =
-    TakesUp config (λ k. grounds_of m i) i own index at ss old moves refused new
+InMachine roster m i own index at ss old moves refused new =
+    TakesUp roster (λ k. grounds_of m i) i own index at ss old moves refused new
     × AreMoves (grounds_of m i) old moves new
 
-takes_up-sound : (config : Config) (m : Machine) (i : ℕ) (gs : ℕ → Grounds) → ((k : ℕ) → AreTrue m i (gs k))
+takes_up-sound : (roster : Roster) (m : Machine) (i : ℕ) (gs : ℕ → Grounds) → ((k : ℕ) → AreTrue m i (gs k))
     → (own : GuidPrefix) (index : ℕ) (receiver : Receiver) (ss : List Submessage) (old : Part) (moves : List Move)
     (refused : Option ℕ) (new : Part) → IsAbove m i old
-    → TakesUp config gs i own index receiver ss old moves refused new
-    → InMachine config m i own index receiver ss old moves refused new
-takes_up-sound config m i gs t own index receiver [] old moves refused new low h =
+    → TakesUp roster gs i own index receiver ss old moves refused new
+    → InMachine roster m i own index receiver ss old moves refused new
+takes_up-sound roster m i gs t own index receiver [] old moves refused new low h =
     (h, subst (λ (ms : List Move). AreMoves (grounds_of m i) old ms new) (sym h.0) h.2)
-takes_up-sound config m i gs t own index receiver (s ∷ ss) old moves refused new low (inl h) =
+takes_up-sound roster m i gs t own index receiver (s ∷ ss) old moves refused new low (inl h) =
     (inl h, subst (λ (ms : List Move). AreMoves (grounds_of m i) old ms new) (sym h.0) h.2)
-takes_up-sound config m i gs t own index receiver (s ∷ ss) old moves refused new low (inr h) =
+takes_up-sound roster m i gs t own index receiver (s ∷ ss) old moves refused new low (inr h) =
     let mid : Part = h.2 in
     let own_moves : AreMoves (grounds_of m i) old h.0 mid = sound_moves m i (gs index) (t index) old h.0 mid low h.4 in
-    let rest : InMachine config m i own (index + 1) (after_submessage own receiver s) ss mid h.1 refused new =
-    takes_up-sound config m i gs t own (index + 1) (after_submessage own receiver s) ss mid h.1 refused new
+    let rest : InMachine roster m i own (index + 1) (after_submessage own receiver s) ss mid h.1 refused new =
+    takes_up-sound roster m i gs t own (index + 1) (after_submessage own receiver s) ss mid h.1 refused new
     (above_grown m i old mid low (AreMoves-grows (gs index) old h.0 mid h.4)) h.6 in
-    let over : MovesOver config (grounds_of m i) i own receiver s old h.0 =
+    let over : MovesOver roster (grounds_of m i) i own receiver s old h.0 =
     λ w r p n c says here matched least most. ⊎_elim (λ o. inl o)
     (λ o. inr (no_room-sound m i (gs index) (t index) old w r.number p n o))
     (h.5 w r p n c says here matched least most) in (
@@ -282,16 +278,16 @@ takes_up-sound config m i gs t own index receiver (s ∷ ss) old moves refused n
           (moves_on (grounds_of m i) old h.0 mid h.1 new own_moves rest.1),
     )
 
-receives-sound : (config : Config) (m : Machine) (i : ℕ) (gs : ℕ → Grounds) → ((k : ℕ) → AreTrue m i (gs k))
+receives-sound : (roster : Roster) (m : Machine) (i : ℕ) (gs : ℕ → Grounds) → ((k : ℕ) → AreTrue m i (gs k))
     → (bytes : List ℕ) (old : Part) (report : Report) (new : Part) → IsAbove m i old
-    → Receives config gs i bytes old report new → Receives config (λ k. grounds_of m i) i bytes old report new
+    → Receives roster gs i bytes old report new → Receives roster (λ k. grounds_of m i) i bytes old report new
     × AreMoves (grounds_of m i) old report.moves new
-receives-sound config m i gs t bytes old report new low (inl h) =
+receives-sound roster m i gs t bytes old report new low (inl h) =
     let r =
-    takes_up-sound config m i gs t (prefix_of config i) 0
+    takes_up-sound roster m i gs t (roster.prefix i) 0
     (receiver_of h.message.prefix) h.message.submessages old report.moves report.refused new low h.taken in
     (inl (record { message = h.message; offset = h.offset; is_read = h.is_read; taken = r.0 }), r.1)
-receives-sound config m i gs t bytes old report new low (inr h) =
+receives-sound roster m i gs t bytes old report new low (inr h) =
     (inr h, subst (λ (ms : List Move). AreMoves (grounds_of m i) old ms new) (sym h.moves) h.after)
 
 -- no reader has acknowledged more than it has or is not owed
@@ -331,9 +327,9 @@ PartStep tests m peer (event.Resume reader) reply after =
     ResumeStep (grounds_of m peer) (part_at m peer) reader reply after
 
 -- and how a packet is taken up there
-abbrev pub EventProgresses : Config → Machine → ℕ → Event → Reply → Type 0
-EventProgresses config m peer (event.Deliver packet) reply = ReceivesIn config m peer packet reply
-EventProgresses config m peer ev reply = Unit {0}
+abbrev pub EventProgresses : Roster → Machine → ℕ → Event → Reply → Type 0
+EventProgresses roster m peer (event.Deliver packet) reply = ReceivesIn roster m peer packet reply
+EventProgresses roster m peer ev reply = Unit {0}
 
 pub PartStep-grows : (tests : Tests) (m : Machine) (i : ℕ) (ev : Event) (reply : Reply) (after : Part)
     → PartStep tests m i ev reply after → Grows (part_at m i).rtps after.rtps
@@ -427,15 +423,15 @@ true_holds m i part is le (Asserts w r count) h =
     (sym same) h.1
 
 -- the step of a peer, on packets that were sent, is one of the machine's part, and what was delivered stays true
-abbrev EventHolds : Config → Machine → Event → Type 0
-EventHolds config m (event.Call call) = Unit {0}
-EventHolds config m (event.Tick now) = Unit {0}
-EventHolds config m (event.Resume reader) = Unit {0}
-EventHolds config m (event.Deliver packet) = (c : Claim) → Claims config packet c → Holds m c
+abbrev EventHolds : Roster → Machine → Event → Type 0
+EventHolds roster m (event.Call call) = Unit {0}
+EventHolds roster m (event.Tick now) = Unit {0}
+EventHolds roster m (event.Resume reader) = Unit {0}
+EventHolds roster m (event.Deliver packet) = (c : Claim) → Claims roster packet c → Holds m c
 
-abbrev pub DeliveredHold : Config → Machine → List Delivery → Type 0
-DeliveredHold config m deliveries =
-    (delivery : Delivery) (claim : Claim) → Contains deliveries delivery → Claims config delivery.packet claim
+abbrev pub DeliveredHold : Roster → Machine → List Delivery → Type 0
+DeliveredHold roster m deliveries =
+    (delivery : Delivery) (claim : Claim) → Contains deliveries delivery → Claims roster delivery.packet claim
     → Holds m claim
 
 -- an element of a list with one more in front
@@ -453,90 +449,90 @@ is_alone x y among =
 pub later_in : {X : Type 0} (x : X) (xs : List X) (y : X) → Contains xs y → Contains (x ∷ xs) y
 later_in x xs y c = (suc c.0, omega (arith, c.1), c.2)
 
-packets_hold : (config : Config) (m : Machine) (ds : List Delivery) → DeliveredHold config m ds
-    → AllHold config m (packets_of ds)
-packets_hold config m [] all bytes claim c s = absurd (omega (arith, c.1))
-packets_hold config m (d ∷ ds) all bytes claim c s =
-    ⊎_elim (λ e. all d claim (0, omega arith, refl) (subst (λ (b : List ℕ). Claims config b claim) (sym e) s))
-    (λ r. packets_hold config m ds (λ x y o t. all x y (later_in d ds x o) t) bytes claim r s)
+packets_hold : (roster : Roster) (m : Machine) (ds : List Delivery) → DeliveredHold roster m ds
+    → AllHold roster m (packets_of ds)
+packets_hold roster m [] all bytes claim c s = absurd (omega (arith, c.1))
+packets_hold roster m (d ∷ ds) all bytes claim c s =
+    ⊎_elim (λ e. all d claim (0, omega arith, refl) (subst (λ (b : List ℕ). Claims roster b claim) (sym e) s))
+    (λ r. packets_hold roster m ds (λ x y o t. all x y (later_in d ds x o) t) bytes claim r s)
     (front_or_rest d.packet (packets_of ds) bytes c.0 c.1 c.2)
 
-with_packet : (config : Config) (m : Machine) (packet : List ℕ) (packets : List (List ℕ))
-    → EventHolds config m (event.Deliver packet) → AllHold config m packets → AllHold config m (packet ∷ packets)
-with_packet config m packet packets sent all bytes claim c s =
-    ⊎_elim (λ e. sent claim (subst (λ (b : List ℕ). Claims config b claim) (sym e) s)) (λ r. all bytes claim r s)
+with_packet : (roster : Roster) (m : Machine) (packet : List ℕ) (packets : List (List ℕ))
+    → EventHolds roster m (event.Deliver packet) → AllHold roster m packets → AllHold roster m (packet ∷ packets)
+with_packet roster m packet packets sent all bytes claim c s =
+    ⊎_elim (λ e. sent claim (subst (λ (b : List ℕ). Claims roster b claim) (sym e) s)) (λ r. all bytes claim r s)
     (front_or_rest packet packets bytes c.0 c.1 c.2)
 
-with_delivery : (config : Config) (m : Machine) (d : Delivery) (ds : List Delivery)
-    → EventHolds config m (event.Deliver d.packet) → DeliveredHold config m ds → DeliveredHold config m (d ∷ ds)
-with_delivery config m d ds sent all x claim c s =
-    ⊎_elim (λ e. sent claim (subst (λ (y : Delivery). Claims config y.packet claim) (sym e) s)) (λ r. all x claim r s)
+with_delivery : (roster : Roster) (m : Machine) (d : Delivery) (ds : List Delivery)
+    → EventHolds roster m (event.Deliver d.packet) → DeliveredHold roster m ds → DeliveredHold roster m (d ∷ ds)
+with_delivery roster m d ds sent all x claim c s =
+    ⊎_elim (λ e. sent claim (subst (λ (y : Delivery). Claims roster y.packet claim) (sym e) s)) (λ r. all x claim r s)
     (front_or_rest d ds x c.0 c.1 c.2)
 
 above_self : (m : Machine) (i : ℕ) → IsAbove m i (part_at m i)
 above_self m i r w = no_less_same (place_at m (at i r) w)
 
-part_delivery : (config : Config) (m : Machine) (i : ℕ) (packet : List ℕ) (before : Peer) (report : Report) (new : Part)
-    → before.number ≡ i → part_at m i ≡ before.part → HasNumber m.parts i → KeepsPolicies config m
-    → AllHold config m (packet ∷ packets_of before.delivered)
-    → Receives config (claimed config before.delivered packet before.part.rtps.readers before.number) before.number
+part_delivery : (roster : Roster) (m : Machine) (i : ℕ) (packet : List ℕ) (before : Peer) (report : Report) (new : Part)
+    → before.number ≡ i → part_at m i ≡ before.part → HasNumber m.parts i → KeepsPolicies roster m
+    → AllHold roster m (packet ∷ packets_of before.delivered)
+    → Receives roster (claimed roster before.delivered packet before.part.rtps.readers before.number) before.number
     packet before.part report new
-    → Receives config (λ k. grounds_of m i) i packet (part_at m i) report new
+    → Receives roster (λ k. grounds_of m i) i packet (part_at m i) report new
     × AreMoves (grounds_of m i) (part_at m i) report.moves new
-part_delivery config m i packet before report new is at_i there keeps hold h =
+part_delivery roster m i packet before report new is at_i there keeps hold h =
     let rows : List (List WriterProxy) = before.part.rtps.readers in
-    let here : Receives config (claimed config before.delivered packet rows i) i packet (part_at m i) report new =
-    subst (λ (q : Part). Receives config (claimed config before.delivered packet rows i) i packet q report new)
+    let here : Receives roster (claimed roster before.delivered packet rows i) i packet (part_at m i) report new =
+    subst (λ (q : Part). Receives roster (claimed roster before.delivered packet rows i) i packet q report new)
     (sym at_i)
-    (subst (λ (j : ℕ). Receives config (claimed config before.delivered packet rows j) j packet before.part report new)
+    (subst (λ (j : ℕ). Receives roster (claimed roster before.delivered packet rows j) j packet before.part report new)
     is h) in
-    receives-sound config m i (claimed config before.delivered packet rows i)
-    (λ k. claimed-true config m i before.delivered packet rows k there keeps hold) packet (part_at m i) report new
+    receives-sound roster m i (claimed roster before.delivered packet rows i)
+    (λ k. claimed-true roster m i before.delivered packet rows k there keeps hold) packet (part_at m i) report new
     (above_self m i) here
 
-abbrev EventSteps : Config → Tests → Machine → ℕ → Event → Reply → Peer → Type 0
-EventSteps config tests m i ev reply after =
-    PartStep tests m i ev reply after.part × EventProgresses config m i ev reply
-    × DeliveredHold config m after.delivered
+abbrev EventSteps : Roster → Tests → Machine → ℕ → Event → Reply → Peer → Type 0
+EventSteps roster tests m i ev reply after =
+    PartStep tests m i ev reply after.part × EventProgresses roster m i ev reply
+    × DeliveredHold roster m after.delivered
 
-part_step : (config : Config) (tests : Tests) (m : Machine) (i : ℕ) (ev : Event) (before : Peer) (reply : Reply)
-    (after : Peer) → before.number ≡ i → part_at m i ≡ before.part → HasNumber m.parts i → KeepsPolicies config m
-    → EventHolds config m ev → DeliveredHold config m before.delivered → EventStep config tests before ev reply after
-    → EventSteps config tests m i ev reply after
-part_step config tests m i (event.Call call) before reply after is at_i there keeps sent all h = (
+part_step : (roster : Roster) (tests : Tests) (m : Machine) (i : ℕ) (ev : Event) (before : Peer) (reply : Reply)
+    (after : Peer) → before.number ≡ i → part_at m i ≡ before.part → HasNumber m.parts i → KeepsPolicies roster m
+    → EventHolds roster m ev → DeliveredHold roster m before.delivered → EventStep roster tests before ev reply after
+    → EventSteps roster tests m i ev reply after
+part_step roster tests m i (event.Call call) before reply after is at_i there keeps sent all h = (
   subst (λ (q : Part). CallStep tests q call reply after.part) (sym at_i) h.0,
   tt,
   subst
-      (λ (ds : List Delivery). DeliveredHold config m ds) (sym h.1) all,
+      (λ (ds : List Delivery). DeliveredHold roster m ds) (sym h.1) all,
 )
-part_step config tests m i (event.Tick now) before reply after is at_i there keeps sent all h = (
+part_step roster tests m i (event.Tick now) before reply after is at_i there keeps sent all h = (
   subst (λ (q : Part). TickStep q now reply after.part) (sym at_i)
       (was_asked before.known.answered before.part, h.0),
   tt,
   subst
-      (λ (ds : List Delivery). DeliveredHold config m ds) (sym h.1) all,
+      (λ (ds : List Delivery). DeliveredHold roster m ds) (sym h.1) all,
 )
-part_step config tests m i (event.Deliver packet) before (Reported report) after is at_i there keeps sent all h =
-    let hold : AllHold config m (packet ∷ packets_of before.delivered) =
-    with_packet config m packet (packets_of before.delivered) sent (packets_hold config m before.delivered all) in
-    let r = part_delivery config m i packet before report after.part is at_i there keeps hold h.0 in (
+part_step roster tests m i (event.Deliver packet) before (Reported report) after is at_i there keeps sent all h =
+    let hold : AllHold roster m (packet ∷ packets_of before.delivered) =
+    with_packet roster m packet (packets_of before.delivered) sent (packets_hold roster m before.delivered all) in
+    let r = part_delivery roster m i packet before report after.part is at_i there keeps hold h.0 in (
       r.1,
       (after.part, r.0),
-      subst (λ (ds : List Delivery). DeliveredHold config m ds) (sym h.1)
-          (with_delivery config m
+      subst (λ (ds : List Delivery). DeliveredHold roster m ds) (sym h.1)
+          (with_delivery roster m
           (record { packet = packet; rows = before.part.rtps.readers; report = report }) before.delivered sent all),
     )
-part_step config tests m i (event.Deliver packet) before reply after is at_i there keeps sent all h = absurd h
-part_step config tests m i (event.Resume k) before reply after is at_i there keeps sent all h =
-    let hold : AllHold config m (packets_of before.delivered) = packets_hold config m before.delivered all in
-    let claims : ℕ → Grounds = λ j. claimed_by config (packets_of before.delivered) j in
+part_step roster tests m i (event.Deliver packet) before reply after is at_i there keeps sent all h = absurd h
+part_step roster tests m i (event.Resume k) before reply after is at_i there keeps sent all h =
+    let hold : AllHold roster m (packets_of before.delivered) = packets_hold roster m before.delivered all in
+    let claims : ℕ → Grounds = λ j. claimed_by roster (packets_of before.delivered) j in
     let here : ResumeStep (claims i) (part_at m i) k reply after.part =
     subst (λ (q : Part). ResumeStep (claims i) q k reply after.part) (sym at_i)
     (subst (λ (j : ℕ). ResumeStep (claims j) before.part k reply after.part) is h.0) in (
-      sound_resume m i (claims i) (claimed_by-true config m i (packets_of before.delivered) there keeps hold) (part_at m i) k
+      sound_resume m i (claims i) (claimed_by-true roster m i (packets_of before.delivered) there keeps hold) (part_at m i) k
           reply after.part (above_self m i) here,
       tt,
-      subst (λ (ds : List Delivery). DeliveredHold config m ds) (sym h.1) all,
+      subst (λ (ds : List Delivery). DeliveredHold roster m ds) (sym h.1) all,
     )
 
 pub parts_at : (ws : WorldState) (i : ℕ) → part_at (machine_of ws) i ≡ (peer_at ws i).part
@@ -563,19 +559,19 @@ peer_number ws i h =
     (omega (arith, low), omega (arith, high, count))
 
 -- the readers of the machine's parts are those of the peers
-policies_of : (config : Config) (ws : WorldState) → Sound config ws → KeepsPolicies config (machine_of ws)
-policies_of config ws sound j k p r there at end = sound.policies j k p r (peer_number ws j there) at end
+policies_of : (roster : Roster) (ws : WorldState) → Sound roster ws → KeepsPolicies roster (machine_of ws)
+policies_of roster ws sound r entity there at = sound.policies r entity (peer_number ws r.peer there) at
 
 -- the world in which one peer has another part, and has sent packets that are true of it, is sound where that part has
 -- grown, its writers have acknowledged no more than they may, and its readers keep their policies
-pub sound_after : (config : Config) (ws : WorldState) (i : ℕ) (after : Peer) (posted : List Packet)
-    → Sound config ws → HasNumber ws.peers i → after.number ≡ i
+pub sound_after : (roster : Roster) (ws : WorldState) (i : ℕ) (after : Peer) (posted : List Packet)
+    → Sound roster ws → HasNumber ws.peers i → after.number ≡ i
     → Grows (part_at (machine_of ws) i).rtps after.part.rtps → AckedBelow (machine_of ws) i after.part
     → ((r : ℕ) → (own_reader after.part r).qos ≡ (own_reader (part_at (machine_of ws) i) r).qos)
-    → DeliveredHold config (machine_of ws) after.delivered
-    → ((p : Packet) (c : Claim) → Contains posted p → Claims config p.bytes c → IsTrueAt i after.part c)
-    → Sound config (world_after ws i after posted)
-sound_after config ws i after posted sound within own_number part_grows mine qos delivered true_there =
+    → DeliveredHold roster (machine_of ws) after.delivered
+    → ((p : Packet) (c : Claim) → Contains posted p → Claims roster p.bytes c → IsTrueAt i after.part c)
+    → Sound roster (world_after ws i after posted)
+sound_after roster ws i after posted sound within own_number part_grows mine qos delivered true_there =
     let m : Machine = machine_of ws in
     let m' : Machine = with_part m i after.part in
     let new : WorldState = world_after ws i after posted in
@@ -619,36 +615,37 @@ sound_after config ws i after posted sound within own_number part_grows mine qos
           (subst (λ (j : ℕ). Covered (own_writer after.part w.number) r (place_at m' r (at j w.number))) (sym o.0)
           (mine' w.number r)))
           (numbered-cases m.parts i after.part w.peer no_part));
-      policies = λ j k p r lt here there.
+      policies = λ r entity lt at_reader.
           let low = lt.0 in
           let high = lt.1 in
-          let old_one = sound.policies j k p r (omega (arith, low), omega (arith, high, same_length)) here there in
-          ap (λ (x : Machine). (own_reader (part_at x j) k).qos.reliability) is_m'
-          ∙ ⊎_elim (λ e. ap (λ (q : Part). (own_reader q k).qos.reliability) e ∙ old_one)
+          let k : ℕ = r.number in
+          let old_one = sound.policies r entity (omega (arith, low), omega (arith, high, same_length)) at_reader in
+          ap (λ (x : Machine). is_reliable (own_reader (part_at x r.peer) k).qos.reliability) is_m'
+          ∙ ⊎_elim (λ e. ap (λ (q : Part). is_reliable (own_reader q k).qos.reliability) e ∙ old_one)
           (λ o.
-          ap (λ (q : Part). (own_reader q k).qos.reliability) o.1
-          ∙ (ap (λ (q : ReaderQos). q.reliability) (qos k)
-          ∙ (ap (λ (n : ℕ). (own_reader (part_at m n) k).qos.reliability) (sym o.0) ∙ old_one)))
-          (numbered-cases m.parts i after.part j no_part);
+          ap (λ (q : Part). is_reliable (own_reader q k).qos.reliability) o.1
+          ∙ (ap (λ (q : ReaderQos). is_reliable q.reliability) (qos k)
+          ∙ (ap (λ (n : ℕ). is_reliable (own_reader (part_at m n) k).qos.reliability) (sym o.0) ∙ old_one)))
+          (numbered-cases m.parts i after.part r.peer no_part);
     }
 
-pub happens : (config : Config) (tests : Tests) (ws : WorldState) (i : ℕ) (ev : Event) (output : Output) (after : Peer)
+pub happens : (roster : Roster) (tests : Tests) (ws : WorldState) (i : ℕ) (ev : Event) (output : Output) (after : Peer)
     (posted : List Packet)
-    → Sound config ws → HasNumber ws.peers i → PeerStep config tests (peer_at ws i) ev output after
-    → EventHolds config (machine_of ws) ev → ((p : Packet) → Contains posted p → Contains output.packets p)
+    → Sound roster ws → HasNumber ws.peers i → PeerStep roster tests (peer_at ws i) ev output after
+    → EventHolds roster (machine_of ws) ev → ((p : Packet) → Contains posted p → Contains output.packets p)
     → PartStep tests (machine_of ws) i ev output.reply after.part
-    × EventProgresses config (machine_of ws) i ev output.reply × Sound config (world_after ws i after posted)
-happens config tests ws i ev output after posted sound within step is_sent of_packets =
+    × EventProgresses roster (machine_of ws) i ev output.reply × Sound roster (world_after ws i after posted)
+happens roster tests ws i ev output after posted sound within step is_sent of_packets =
     let m : Machine = machine_of ws in
     let is_number : (peer_at ws i).number ≡ i = sound.number i within in
-    let s : EventSteps config tests m i ev output.reply after =
-    part_step config tests m i ev (peer_at ws i) output.reply after is_number (parts_at ws i)
-    (part_number ws i within) (policies_of config ws sound) is_sent
+    let s : EventSteps roster tests m i ev output.reply after =
+    part_step roster tests m i ev (peer_at ws i) output.reply after is_number (parts_at ws i)
+    (part_number ws i within) (policies_of roster ws sound) is_sent
     (λ d c o h. sound.delivered i d c o h) step.step in
     let own_number : after.number ≡ i = step.same_number ∙ is_number in (
       s.0,
       s.1,
-      sound_after config ws i after posted sound within own_number
+      sound_after roster ws i after posted sound within own_number
           (PartStep-grows tests m i ev output.reply after.part s.0)
           (PartStep-acked tests m i ev output.reply after.part s.0 (λ w r. sound.acknowledged (at i w) r))
           (PartStep-qos tests m i ev output.reply after.part s.0) s.2
@@ -656,10 +653,10 @@ happens config tests ws i ev output after posted sound within step is_sent of_pa
           (step.sent p c (of_packets p among) h)),
     )
 
-abbrev pub Composed : Config → AllTests → WorldState → WorldEvent → Reply → WorldState → Type 0
-Composed config tests old event reply new =
+abbrev pub Composed : Roster → AllTests → WorldState → WorldEvent → Reply → WorldState → Type 0
+Composed roster tests old event reply new =
     Step tests (length old.sent) (machine_of old) event reply (machine_of new)
-    × Progresses config old.sent (machine_of old) event reply × Sound config new
+    × Progresses roster old.sent (machine_of old) event reply × Sound roster new
 
 pub contains_at : (xs : List Packet) (i : ℕ) (x : Packet) → slice_get xs i ≡ Some x → Contains xs x
 contains_at [] i x h = cc
@@ -667,22 +664,22 @@ contains_at (y ∷ ys) zero x h = (0, omega arith, same_Some y x h)
 contains_at (y ∷ ys) (suc i) x h = let r = contains_at ys i x h in (suc r.0, omega (arith, r.1), r.2)
 
 -- an event of one peer
-composed : (config : Config) (tests : AllTests) (old new : WorldState) (peer : ℕ) (ev : Event) (whole : WorldEvent)
-    (reply : Reply) → Sound config old → EventHolds config (machine_of old) ev
-    → PeerSteps config (tests peer) old peer ev reply new
+composed : (roster : Roster) (tests : AllTests) (old new : WorldState) (peer : ℕ) (ev : Event) (whole : WorldEvent)
+    (reply : Reply) → Sound roster old → EventHolds roster (machine_of old) ev
+    → PeerSteps roster (tests peer) old peer ev reply new
     → ((m : Machine) → AtPeer (machine_of old) peer
     (λ after. PartStep (tests peer) (machine_of old) peer ev reply after) m
     → Step tests (length old.sent) (machine_of old) whole reply m)
-    → (EventProgresses config (machine_of old) peer ev reply → Progresses config old.sent (machine_of old) whole reply)
-    → Composed config tests old whole reply new
-composed config tests old new peer ev whole reply sound holds h step progress =
+    → (EventProgresses roster (machine_of old) peer ev reply → Progresses roster old.sent (machine_of old) whole reply)
+    → Composed roster tests old whole reply new
+composed roster tests old new peer ev whole reply sound holds h step progress =
     let r =
-    happens config (tests peer) old peer ev h.output h.after h.posted sound h.within h.step holds h.of_packets in
+    happens roster (tests peer) old peer ev h.output h.after h.posted sound h.within h.step holds h.of_packets in
     let s : PartStep (tests peer) (machine_of old) peer ev reply h.after.part =
     subst (λ (x : Reply). PartStep (tests peer) (machine_of old) peer ev x h.after.part) h.replies r.0 in
-    let t : EventProgresses config (machine_of old) peer ev reply =
-    subst (λ (x : Reply). EventProgresses config (machine_of old) peer ev x) h.replies r.1 in
-    subst (λ (w : WorldState). Composed config tests old whole reply w) (sym h.changed) (
+    let t : EventProgresses roster (machine_of old) peer ev reply =
+    subst (λ (x : Reply). EventProgresses roster (machine_of old) peer ev x) h.replies r.1 in
+    subst (λ (w : WorldState). Composed roster tests old whole reply w) (sym h.changed) (
       step (machine_of (world_after old peer h.after h.posted))
           (record {
             within = part_number old peer h.within;
@@ -695,66 +692,66 @@ composed config tests old new peer ev whole reply sound holds h step progress =
       r.2,
     )
 
-composed_delivery : (config : Config) (tests : AllTests) (old new : WorldState) (peer number : ℕ) (packet : Packet)
-    (reply : Reply) → Sound config old → 1 ≤ number → slice_get old.sent (number - 1) ≡ Some packet
-    → PeerSteps config (tests peer) old peer (event.Deliver packet.bytes) reply new
-    → Composed config tests old (world.Deliver peer number) reply new
-composed_delivery config tests old new peer number packet reply sound low found h =
+composed_delivery : (roster : Roster) (tests : AllTests) (old new : WorldState) (peer number : ℕ) (packet : Packet)
+    (reply : Reply) → Sound roster old → 1 ≤ number → slice_get old.sent (number - 1) ≡ Some packet
+    → PeerSteps roster (tests peer) old peer (event.Deliver packet.bytes) reply new
+    → Composed roster tests old (world.Deliver peer number) reply new
+composed_delivery roster tests old new peer number packet reply sound low found h =
     let within = slice_get_within old.sent (number - 1) packet found in
-    composed config tests old new peer (event.Deliver packet.bytes) (world.Deliver peer number) reply sound
+    composed roster tests old new peer (event.Deliver packet.bytes) (world.Deliver peer number) reply sound
     (λ c s. sound.sent packet c (contains_at old.sent (number - 1) packet found) s) h
     (λ m at. inl (
       low,
       omega (arith, within),
       record { within = at.within; after = at.after; step = at.step; changed = at.changed },
     ))
-    (λ t other least is there. subst (λ (p : Packet). ReceivesIn config (machine_of old) peer p.bytes reply)
+    (λ t other least is there. subst (λ (p : Packet). ReceivesIn roster (machine_of old) peer p.bytes reply)
     (same_Some packet other (sym found ∙ is)) t)
 
 no_part_number : (ws : WorldState) (i : ℕ) → (HasNumber ws.peers i → ⊥) → HasNumber (machine_of ws).parts i → ⊥
 no_part_number ws i none h = none (peer_number ws i h)
 
 -- a packet that was sent, and a peer, are no reason to refuse a delivery
-not_refused : (config : Config) (old : WorldState) (peer number : ℕ) (reply : Reply)
+not_refused : (roster : Roster) (old : WorldState) (peer number : ℕ) (reply : Reply)
     → (number ≡ 0) ⊎ (length old.sent < number) ⊎ (HasNumber old.peers peer → ⊥)
-    → Progresses config old.sent (machine_of old) (world.Deliver peer number) reply
-not_refused config old peer number reply (inl z) packet least is there = absurd (omega (arith, z, least))
-not_refused config old peer number reply (inr (inl over)) packet least is there =
+    → Progresses roster old.sent (machine_of old) (world.Deliver peer number) reply
+not_refused roster old peer number reply (inl z) packet least is there = absurd (omega (arith, z, least))
+not_refused roster old peer number reply (inr (inl over)) packet least is there =
     let within = slice_get_within old.sent (number - 1) packet is in absurd (omega (arith, over, within, least))
-not_refused config old peer number reply (inr (inr none)) packet least is there =
+not_refused roster old peer number reply (inr (inr none)) packet least is there =
     absurd (none (peer_number old peer there))
 
 -- what the world refuses, the machine refuses, and the world is as sound as it was
-refused : (config : Config) (old new : WorldState) (reply : Reply) → Sound config old → IsRefusedIn old reply new
-    → IsRefused (machine_of old) reply (machine_of new) × Sound config new
-refused config old new reply sound h =
-    ((h.is_refused, ap machine_of h.after), subst (λ (w : WorldState). Sound config w) (sym h.after) sound)
+refused : (roster : Roster) (old new : WorldState) (reply : Reply) → Sound roster old → IsRefusedIn old reply new
+    → IsRefused (machine_of old) reply (machine_of new) × Sound roster new
+refused roster old new reply sound h =
+    ((h.is_refused, ap machine_of h.after), subst (λ (w : WorldState). Sound roster w) (sym h.after) sound)
 
-pub composes : (config : Config) (tests : AllTests) (old new : WorldState) (ev : WorldEvent) (reply : Reply)
-    → Sound config old → WorldStep config tests old ev reply new → Composed config tests old ev reply new
-composes config tests old new (world.Call peer call) reply sound (inl h) =
-    composed config tests old new peer (event.Call call) (world.Call peer call) reply sound tt h (λ m at. inl at)
+pub composes : (roster : Roster) (tests : AllTests) (old new : WorldState) (ev : WorldEvent) (reply : Reply)
+    → Sound roster old → WorldStep roster tests old ev reply new → Composed roster tests old ev reply new
+composes roster tests old new (world.Call peer call) reply sound (inl h) =
+    composed roster tests old new peer (event.Call call) (world.Call peer call) reply sound tt h (λ m at. inl at)
     (λ t. tt)
-composes config tests old new (world.Call peer call) reply sound (inr h) =
-    let r = refused config old new reply sound h.1 in (inr (no_part_number old peer h.0, r.0), tt, r.1)
-composes config tests old new (world.Tick peer now) reply sound (inl h) =
-    composed config tests old new peer (event.Tick now) (world.Tick peer now) reply sound tt h (λ m at. inl at)
+composes roster tests old new (world.Call peer call) reply sound (inr h) =
+    let r = refused roster old new reply sound h.1 in (inr (no_part_number old peer h.0, r.0), tt, r.1)
+composes roster tests old new (world.Tick peer now) reply sound (inl h) =
+    composed roster tests old new peer (event.Tick now) (world.Tick peer now) reply sound tt h (λ m at. inl at)
     (λ t. tt)
-composes config tests old new (world.Tick peer now) reply sound (inr h) =
-    let r = refused config old new reply sound h.1 in (inr (no_part_number old peer h.0, r.0), tt, r.1)
-composes config tests old new (world.Deliver peer number) reply sound (inl h) =
-    composed_delivery config tests old new peer number h.0 reply sound h.1 h.2 h.3
-composes config tests old new (world.Deliver peer number) reply sound (inr h) =
-    let r = refused config old new reply sound h.1 in (
+composes roster tests old new (world.Tick peer now) reply sound (inr h) =
+    let r = refused roster old new reply sound h.1 in (inr (no_part_number old peer h.0, r.0), tt, r.1)
+composes roster tests old new (world.Deliver peer number) reply sound (inl h) =
+    composed_delivery roster tests old new peer number h.0 reply sound h.1 h.2 h.3
+composes roster tests old new (world.Deliver peer number) reply sound (inr h) =
+    let r = refused roster old new reply sound h.1 in (
       inr (
         ⊎_elim (λ z. inl z) (λ o. ⊎_elim (λ s. inr (inl s)) (λ p. inr (inr (no_part_number old peer p))) o) h.0,
         r.0,
       ),
-      not_refused config old peer number reply h.0,
+      not_refused roster old peer number reply h.0,
       r.1,
     )
-composes config tests old new (world.Resume peer k) reply sound (inl h) =
-    composed config tests old new peer (event.Resume k) (world.Resume peer k) reply sound tt h (λ m at. inl at)
+composes roster tests old new (world.Resume peer k) reply sound (inl h) =
+    composed roster tests old new peer (event.Resume k) (world.Resume peer k) reply sound tt h (λ m at. inl at)
     (λ t. tt)
-composes config tests old new (world.Resume peer k) reply sound (inr h) =
-    let r = refused config old new reply sound h.1 in (inr (no_part_number old peer h.0, r.0), tt, r.1)
+composes roster tests old new (world.Resume peer k) reply sound (inr h) =
+    let r = refused roster old new reply sound h.1 in (inr (no_part_number old peer h.0, r.0), tt, r.1)

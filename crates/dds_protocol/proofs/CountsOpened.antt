@@ -18,12 +18,12 @@ use Rattle.dds_protocol.specs.Protocol.{Known}
 use Rattle.dds_protocol.specs.World.{peer_at}
 use Rattle.dds_machine.specs.Opening.{matched_readers, opening_writer, opening_part}
 use Rattle.dds_protocol.specs.Opening.{opening_peers, opening_world}
-use Rattle.dds_protocol.specs.Fresh.{HasUsedCounts}
+use Rattle.dds_protocol.specs.Fresh.{OpensUsed}
 use Rattle.dds_protocol.specs.Coming.{OpensUsedFirst}
-use Rattle.dds_protocol.specs.Roster.{ComeFirst}
+use Rattle.dds_protocol.specs.Roster.{ComeFirst, roster_of}
 use Rattle.dds_protocol.proofs.Bounded.{opened_is_fresh}
-use Rattle.dds_protocol.proofs.Opened.{all_first}
-use Rattle.dds_machine.proofs.Tables.{slice_get-append}
+use Rattle.dds_protocol.proofs.Listed.{numbered_on, part_of_peer}
+use Rattle.dds_protocol.proofs.Opened.{all_first, opened_number}
 
 -- what is told of matched ends, and then of that
 
@@ -51,10 +51,6 @@ matched_told {Y = Y} f tell topic n (p ∷ ps) =
     (matched_told f tell topic (n + 1) ps))
 
 -- a peer of the opening
-
-count_of : (peers : List PeerConfig) (n : ℕ) (ps : List PeerConfig) → length (opening_peers peers n ps) ≡ length ps
-count_of peers n [] = refl
-count_of peers n (p ∷ ps) = let e = count_of peers (n + 1) ps in omega (arith, e)
 
 record IsOpened (peers : List PeerConfig) (ps : List PeerConfig) (i : ℕ) (part : Part) : Type 0 where
   here : PeerConfig
@@ -100,26 +96,22 @@ matched_opened peers own (suc k) w at =
 
 part_opened : (config roster : Config) → ComeFirst config roster → (peer : ℕ)
     → HasNumber (opening_world config).peers peer
-    → IsPartOf roster peer (peer_at (opening_world config) peer).part
+    → IsPartOf (roster_of roster) peer (peer_at (opening_world config) peer).part
 part_opened config roster first zero has = let low = has.0 in absurd (omega (arith, low))
 part_opened config roster first (suc i) has =
-    let high = has.1 in
-    let count = count_of config.peers 1 config.peers in
-    let o = opened_part config.peers 1 config.peers i (omega (arith, high, count)) in
+    let high = (opened_number config (suc i) has).1 in
+    let o = opened_part config.peers 1 config.peers i (omega (arith, high)) in
     let index : i ≡ suc i - 1 = omega arith in
-    let there : slice_get roster.peers i ≡ Some o.here =
-    subst (λ (ps : List PeerConfig). slice_get ps i ≡ Some o.here) (sym first.1)
-    (slice_get-append config.peers first.0 i o.here o.at) in
-    subst (λ (p : Part). IsPartOf roster (suc i) p) (sym o.is) (record {
-      here = o.here;
-      at = (omega arith, subst (λ (n : ℕ). slice_get roster.peers n ≡ Some o.here) index there);
-      writers = length-map o.here.writers (opening_writer config.peers);
-    })
+    let there : IsNumbered config.peers (suc i) o.here =
+    (omega arith, subst (λ (n : ℕ). slice_get config.peers n ≡ Some o.here) index o.at) in
+    part_of_peer roster (suc i) o.here (peer_at (opening_world config) (suc i)).part
+    (numbered_on config roster first (suc i) o.here there)
+    (ap (λ (p : Part). length p.rtps.writers) o.is ∙ length-map o.here.writers (opening_writer config.peers))
 
 -- at the opening no count was sent or taken
 pub opens_used_first : OpensUsedFirst
 opens_used_first config roster first = record {
-  of_config = part_opened config roster first;
+  of_roster = part_opened config roster first;
   heartbeat_sent = λ packet w count among has. let lt = among.1 in absurd (omega (arith, lt));
   acknack_sent = λ packet w r count among has. let lt = among.1 in absurd (omega (arith, lt));
   heartbeat_taken = λ w r count e.
@@ -130,5 +122,5 @@ opens_used_first config roster first = record {
       sym (ap (λ (k : Known). (k.answered w.number r).count) (opened_is_fresh config w.peer).known) ∙ e in absurd cc;
 }
 
-pub opens_used : (config : Config) → HasUsedCounts config (opening_world config)
+pub opens_used : OpensUsed
 opens_used config = opens_used_first config config (all_first config)

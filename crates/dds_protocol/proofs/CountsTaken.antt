@@ -5,12 +5,11 @@ use Rattle.std.proofs.lemmas.Int.{ints}
 use Rattle.std.proofs.lemmas.List.Elements.{Contains-append_cases}
 use Rattle.std.proofs.lemmas.Option.{same_Some}
 use Rattle.dds_base.specs.declared.change.Change.{Change}
-use Rattle.dds_base.specs.declared.config.Config.{Config}
+use Rattle.dds_protocol.specs.Roster.{IsRoster, Roster}
 use Rattle.dds_base.specs.declared.guid.EntityId.{EntityId}
 use Rattle.dds_base.specs.declared.guid.GuidPrefix.{GuidPrefix}
 use Rattle.dds_base.specs.Kept.{numbers_from}
 use Rattle.rtps_reader.specs.declared.step.AckNackDue.{AckNackDue}
-use Rattle.dds_base.specs.Matched.{is_reliable_reader}
 use Rattle.rtps_reader.specs.Tracked.{Tracked, with_gap}
 use Rattle.rtps_reader.specs.Answer.{AnswersHeartbeat, answered}
 use Rattle.rtps_wire.specs.declared.acknack.AckNack.{AckNack as AckNackBody}
@@ -25,14 +24,12 @@ use Rattle.dds_machine.specs.declared.reply.Move.{Move}
 use Rattle.dds_machine.specs.declared.reply.Report.{Report}
 use Rattle.dds_machine.specs.Part.{Attachment, Away, Waiting, Begun, ReaderProxy, WriterProxy, own_writer, writer_changes}
 use Rattle.dds_protocol.specs.Claims.{Receiver, receiver_of, after_submessage, StandsAt, StandsIn, IsWriter, IsToReader, IsToWriter}
-use Rattle.dds_protocol.specs.Receipt.{prefix_of}
 use Rattle.dds_protocol.specs.DueMessages.{Due, acknack_message, acknacks_due, answer_message}
 use Rattle.dds_protocol.specs.Contact.{Contact}
 use Rattle.dds_protocol.specs.Protocol.{BeginsWith, HearsAlone, Known, State, stands_to, InTurn, TakesChange, heard_as, Idles, TakesHeartbeat, TakesAckNack, ReaderTakes, WriterTakes, Takes, FollowsMessage, TakesPacket, contact_after, with_answered}
 use Rattle.dds_protocol.specs.Resuming.{GoesAgain, GoAgain}
 use Rattle.dds_protocol.specs.Backed.{reader_at}
 use Rattle.dds_protocol.specs.Fresh.{HasHeartbeat, HasAckNack}
-use Rattle.dds_protocol.specs.Roster.{IsRoster}
 use Rattle.dds_protocol.proofs.Composed.{is_alone}
 use Rattle.dds_protocol.proofs.Contacts.{with_one}
 use Rattle.dds_protocol.proofs.CountsWritten.{plain_beats, plain_asks, plain_answers, one_ask, one_ask_beats, each_of}
@@ -44,8 +41,8 @@ use Rattle.dds_protocol.proofs.Turns.{in_turn}
 
 -- a peer of a configuration, and how many counts each writer has used, and each reader for each writer
 pub record Counting : Type 0 where
-  pub config : Config
-  pub checked : IsRoster config.peers
+  pub roster : Roster
+  pub checked : IsRoster roster
   pub peer : ℕ
   pub own : GuidPrefix
   pub beats : Endpoint → ℕ
@@ -54,17 +51,17 @@ pub record Counting : Type 0 where
 -- the submessage has a count that its sender has used
 abbrev pub IsUsed : Counting → Receiver → Submessage → Type 0
 IsUsed c at (Heartbeat h) =
-    (w : Endpoint) → IsWriter c.config at.source_guid_prefix h.writer_id w → h.count ≤ℤ pos (c.beats w)
+    (w : Endpoint) → IsWriter c.roster at.source_guid_prefix h.writer_id w → h.count ≤ℤ pos (c.beats w)
 IsUsed c at (AckNack a) =
-    (w r : Endpoint) → IsToWriter c.config c.own at a.reader_id a.writer_id w r → a.count ≤ℤ pos (c.asks w r)
+    (w r : Endpoint) → IsToWriter c.roster c.own at a.reader_id a.writer_id w r → a.count ≤ℤ pos (c.asks w r)
 IsUsed c at other = Unit {0}
 
 -- a message that is due has no HEARTBEAT, and each ACKNACK there has a count that its reader, one of the peer, has used
 pub record IsCounted (c : Counting) (s : State) (due : Due) : Type 0 where
   pub beat : (w : Endpoint) (count : ℤ) → IsWritable due.message
-      → HasHeartbeat c.config (spelling_of due.message) w count → ⊥
+      → HasHeartbeat c.roster (spelling_of due.message) w count → ⊥
   pub ask : (w r : Endpoint) (count : ℤ) → IsWritable due.message
-      → HasAckNack c.config (spelling_of due.message) w r count
+      → HasAckNack c.roster (spelling_of due.message) w r count
       → (r.peer ≡ c.peer) × (count ≤ℤ pos (s.known.tracked w r.number).acknacks)
 
 -- what a step of the peer does to counts
@@ -191,7 +188,7 @@ answered_more (Some due) t = omega arith
 
 -- the ACKNACK that is due to a HEARTBEAT
 ask_counted : (c : Counting) (at : Receiver) (reader_id writer_id : EntityId) (w : Endpoint) (r : ℕ)
-    (is : IsToReader c.config c.own at reader_id writer_id w (reader_at c.peer r)) (t : Tracked) (last : ℕ)
+    (is : IsToReader c.roster c.own at reader_id writer_id w (reader_at c.peer r)) (t : Tracked) (last : ℕ)
     (final : Bool)
     (answer : Option AckNackDue) → AnswersHeartbeat t last final answer → (new : State)
     → new.known.tracked w r ≡ answered answer t
@@ -201,11 +198,11 @@ ask_counted c at reader_id writer_id w r is t last final None a new here due amo
     let lt = among.1 in absurd (omega (arith, lt))
 ask_counted c at reader_id writer_id w r is t last final (Some x) a new here due among =
     subst (λ (d : Due). IsCounted c new d) (is_alone the due among) (record {
-      beat = λ v count writable has. one_ask_beats c.config c.own at.source_guid_prefix body v count writable has;
+      beat = λ v count writable has. one_ask_beats c.roster c.own at.source_guid_prefix body v count writable has;
       ask = λ v k count writable has.
-          let found = one_ask c.config c.own at.source_guid_prefix body v k count writable has in
+          let found = one_ask c.roster c.own at.source_guid_prefix body v k count writable has in
           let names =
-          answer_names c.config c.checked c.own at reader_id writer_id w (reader_at c.peer r) is found.0 v k found.1
+          answer_names c.roster c.checked c.own at reader_id writer_id w (reader_at c.peer r) is found.0 v k found.1
           in
           let used = ap (λ (y : Tracked). y.acknacks) here in
           let number : count ≡ pos (t.acknacks + 1) = found.2 ∙ a.3.count in (
@@ -225,7 +222,7 @@ ask_counted c at reader_id writer_id w r is t last final (Some x) a new here due
 
 heartbeat_counts : (c : Counting) (at : Receiver) (h : HeartbeatBody) → IsUsed c at (Heartbeat h)
     → (old : State) (w : Endpoint) (r : ℕ)
-    (is : IsToReader c.config c.own at h.reader_id h.writer_id w (reader_at c.peer r)) (moves : List Move)
+    (is : IsToReader c.roster c.own at h.reader_id h.writer_id w (reader_at c.peer r)) (moves : List Move)
     (dues : List Due) (new : State)
     → TakesHeartbeat c.own at old w r is.entity h moves dues new → Counts c old dues new
 heartbeat_counts c at h used old w r is moves dues new k =
@@ -251,12 +248,12 @@ heartbeat_counts c at h used old w r is moves dues new k =
 
 reader_counts : (c : Counting) (at : Receiver) (s : Submessage) → IsUsed c at s
     → (r : ℕ) (old : State) (moves : List Move) (dues : List Due) (new : State)
-    → ReaderTakes c.config c.own c.peer at s r old moves dues new → Counts c old dues new
+    → ReaderTakes c.roster c.own c.peer at s r old moves dues new → Counts c old dues new
 reader_counts c at (Data d) used r old moves dues new (inl h) =
-    ⊎_elim (λ takes. by (is_reliable_reader h.1.to.end) takes)
+    ⊎_elim (λ takes. by (c.roster.is_reliable (reader_at c.peer r)) takes)
     (λ o.
-    ⊎_elim (λ k. begins k) (λ n. counts_idle c old moves dues new (n.0, h.2.1, n.1)) o)
-    (met_change (stands_to old h.0 r) (is_reliable_reader h.1.to.end) old h.0 r d.writer_sn change moves new h.2.0)
+    ⊎_elim (λ k. begins k) (λ n. counts_idle c old moves dues new (n.0, h.3.1, n.1)) o)
+    (met_change (stands_to old h.0 r) (c.roster.is_reliable (reader_at c.peer r)) old h.0 r d.writer_sn change moves new h.3.0)
   where
     change : Change
     change = change_in d.content at.timestamp
@@ -265,7 +262,7 @@ reader_counts c at (Data d) used r old moves dues new (inl h) =
     by reliable takes =
         let same = after_change-same reliable d.writer_sn change (old.known.tracked h.0 r) in
         goes_counts c old h.0 r (after_change reliable d.writer_sn change (old.known.tracked h.0 r)) moves dues new
-        (change_went reliable old h.0 r d.writer_sn change moves new takes) h.2.1 same.1 same.2
+        (change_went reliable old h.0 r d.writer_sn change moves new takes) h.3.1 same.1 same.2
 
     begins : BeginsWith old h.0 r d.writer_sn change moves new → Counts c old dues new
     begins k =
@@ -274,21 +271,21 @@ reader_counts c at (Data d) used r old moves dues new (inl h) =
         k.started (starts_learns old h.0 r d.writer_sn k.starting k.started k.starts) (omega arith) (λ n e. inl e)
         (no_dues c k.started [] refl))
         (goes_counts c k.started h.0 r (k.started.known.tracked h.0 r) k.going dues new
-        (change_went false k.started h.0 r d.writer_sn change k.going new k.takes) h.2.1 refl refl)
+        (change_went false k.started h.0 r d.writer_sn change k.going new k.takes) h.3.1 refl refl)
 reader_counts c at (Data d) used r old moves dues new (inr h) = counts_idle c old moves dues new h.1
 reader_counts c at (Gap g) used r old moves dues new (inl h) =
     ⊎_elim
     (λ takes. ⊎_elim (λ t. goes_counts c old h.0 r (with_gap g.gap_start g.gap_list (old.known.tracked h.0 r)) moves
-    dues new (goes_went old h.0 r _ moves new t.1) h.2.1 refl refl)
-    (λ n. counts_idle c old moves dues new (n.0, h.2.1, n.1))
-    (gap_went (is_reliable_reader h.1.to.end) old h.0 r g moves new takes))
-    (λ n. counts_idle c old moves dues new (n.0, h.2.1, n.1))
-    (met_gap (stands_to old h.0 r) (is_reliable_reader h.1.to.end) old h.0 r g moves new h.2.0)
+    dues new (goes_went old h.0 r _ moves new t.1) h.3.1 refl refl)
+    (λ n. counts_idle c old moves dues new (n.0, h.3.1, n.1))
+    (gap_went (c.roster.is_reliable (reader_at c.peer r)) old h.0 r g moves new takes))
+    (λ n. counts_idle c old moves dues new (n.0, h.3.1, n.1))
+    (met_gap (stands_to old h.0 r) (c.roster.is_reliable (reader_at c.peer r)) old h.0 r g moves new h.3.0)
 reader_counts c at (Gap g) used r old moves dues new (inr h) = counts_idle c old moves dues new h.1
 reader_counts c at (Heartbeat b) used r old moves dues new (inl h) =
-    by (is_reliable_reader h.1.to.end)
-    (met_heartbeat (stands_to old h.0 r) (is_reliable_reader h.1.to.end) c.own at old h.0 r h.1.entity b moves dues new
-    h.2)
+    by (c.roster.is_reliable (reader_at c.peer r))
+    (met_heartbeat (stands_to old h.0 r) (c.roster.is_reliable (reader_at c.peer r)) c.own at old h.0 r h.1.entity b moves dues new
+    h.3)
   where
     by : (reliable : Bool)
         → TakesHeartbeat c.own at old h.0 r h.1.entity (heard_as reliable b) moves dues new
@@ -324,17 +321,17 @@ answer_counted : (c : Counting) (s : State) (own to : GuidPrefix) (reader writer
     → IsCounted c s (record { to = n; message = answer_message own to reader writer changes group })
 answer_counted c s own to reader writer changes n group = record {
   beat =
-      λ v count writable has. plain_beats c.config (answer_message own to reader writer changes group) v count writable
+      λ v count writable has. plain_beats c.roster (answer_message own to reader writer changes group) v count writable
       (tt, plain_answers changes reader writer group) has;
   ask =
-      λ v k count writable has. absurd (plain_asks c.config
+      λ v k count writable has. absurd (plain_asks c.roster
       (answer_message own to reader writer changes group) v k count writable
       (tt, plain_answers changes reader writer group) has);
 }
 
 acknack_counts : (c : Counting) (at : Receiver) (a : AckNackBody) → IsUsed c at (AckNack a)
     → (writer : ℕ) (reader : Endpoint) (old : State)
-    (is : IsToWriter c.config c.own at a.reader_id a.writer_id (reader_at c.peer writer) reader) (moves : List Move)
+    (is : IsToWriter c.roster c.own at a.reader_id a.writer_id (reader_at c.peer writer) reader) (moves : List Move)
     (dues : List Due) (new : State)
     → TakesAckNack c.own at old writer reader is.entity a moves dues new → Counts c old dues new
 acknack_counts c at a used writer reader old is moves dues new k = record {
@@ -363,7 +360,7 @@ acknack_counts c at a used writer reader old is moves dues new k = record {
 
 writer_counts : (c : Counting) (at : Receiver) (a : AckNackBody) → IsUsed c at (AckNack a)
     → (writer : ℕ) (reader : Endpoint) (old : State) (moves : List Move) (dues : List Due) (new : State)
-    → WriterTakes c.config c.own c.peer at a writer reader old moves dues new → Counts c old dues new
+    → WriterTakes c.roster c.own c.peer at a writer reader old moves dues new → Counts c old dues new
 writer_counts c at a used writer reader old moves dues new (inl h) =
     acknack_counts c at a used writer reader old h.0 moves dues new h.2
 writer_counts c at a used writer reader old moves dues new (inr h) =
@@ -373,21 +370,21 @@ writer_counts c at a used writer reader old moves dues new (inr h) =
 
 takes_by_readers : (c : Counting) (at : Receiver) (s : Submessage) → IsUsed c at s
     → (readers : List ℕ) (old : State) (moves : List Move) (dues : List Due) (new : State)
-    → InTurn (ReaderTakes c.config c.own c.peer at s) readers old moves dues new → Counts c old dues new
+    → InTurn (ReaderTakes c.roster c.own c.peer at s) readers old moves dues new → Counts c old dues new
 takes_by_readers c at s used readers old moves dues new h =
-    in_turn (Counts c) (counts_none c) (counts_on c) (ReaderTakes c.config c.own c.peer at s)
+    in_turn (Counts c) (counts_none c) (counts_on c) (ReaderTakes c.roster c.own c.peer at s)
     (reader_counts c at s used) readers old moves dues new h
 
 takes_counts : (c : Counting) (at : Receiver) (s : Submessage) → IsUsed c at s
     → (old : State) (moves : List Move) (dues : List Due) (new : State)
-    → Takes c.config c.own c.peer at s old moves dues new → Counts c old dues new
+    → Takes c.roster c.own c.peer at s old moves dues new → Counts c old dues new
 takes_counts c at (AckNack a) used old moves dues new h =
     in_turn (Counts c) (counts_none c) (counts_on c)
-    (λ (writer : ℕ). InTurn (λ (p : ReaderProxy). WriterTakes c.config c.own c.peer at a writer p.reader)
+    (λ (writer : ℕ). InTurn (λ (p : ReaderProxy). WriterTakes c.roster c.own c.peer at a writer p.reader)
     (own_writer old.part writer).readers)
     (λ writer from made due to k.
     in_turn (Counts c) (counts_none c) (counts_on c)
-    (λ (p : ReaderProxy). WriterTakes c.config c.own c.peer at a writer p.reader)
+    (λ (p : ReaderProxy). WriterTakes c.roster c.own c.peer at a writer p.reader)
     (λ p. writer_counts c at a used writer p.reader) (own_writer old.part writer).readers from made due to k)
     (numbers_from 1 (length old.part.rtps.writers)) old moves dues new h
 takes_counts c at (Data d) used old moves dues new h =
@@ -411,7 +408,7 @@ AreUsed c from ss = (index : ℕ) (at : Receiver) (s : Submessage) → StandsAt 
 
 follows_counts : (c : Counting) (index : ℕ) (at : Receiver) (ss : List Submessage) → AreUsed c at ss
     → (old : State) (moves : List Move) (refused : Option ℕ) (dues : List Due) (new : State)
-    → FollowsMessage c.config c.own c.peer index at ss old moves refused dues new → Counts c old dues new
+    → FollowsMessage c.roster c.own c.peer index at ss old moves refused dues new → Counts c old dues new
 follows_counts c index at [] used old moves refused dues new h = counts_idle c old moves dues new h.1
 follows_counts c index at (s ∷ ss) used old moves refused dues new (inl h) = counts_idle c old moves dues new h.1
 follows_counts c index at (s ∷ ss) used old moves refused dues new (inr h) =
@@ -421,15 +418,15 @@ follows_counts c index at (s ∷ ss) used old moves refused dues new (inr h) =
     (λ i x y stands. used (suc i) x y stands) h.4 h.1 refused h.3 new h.8))
 
 -- a packet whose counts their senders have used
-pub packet_counts : (c : Counting) (bytes : List ℕ) → c.own ≡ prefix_of c.config c.peer
-    → ((w : Endpoint) (count : ℤ) → HasHeartbeat c.config bytes w count → count ≤ℤ pos (c.beats w))
-    → ((w r : Endpoint) (count : ℤ) → HasAckNack c.config bytes w r count → count ≤ℤ pos (c.asks w r))
+pub packet_counts : (c : Counting) (bytes : List ℕ) → c.own ≡ c.roster.prefix c.peer
+    → ((w : Endpoint) (count : ℤ) → HasHeartbeat c.roster bytes w count → count ≤ℤ pos (c.beats w))
+    → ((w r : Endpoint) (count : ℤ) → HasAckNack c.roster bytes w r count → count ≤ℤ pos (c.asks w r))
     → (old : State) (report : Report) (dues : List Due) (new : State)
-    → TakesPacket c.config c.peer bytes old report dues new → Counts c old dues new
+    → TakesPacket c.roster c.peer bytes old report dues new → Counts c old dues new
 packet_counts c bytes name beats asks old report dues new (inl h) =
     follows_counts c 0 (receiver_of h.message.prefix) h.message.submessages used old report.moves report.refused dues
     new
-    (subst (λ (p : GuidPrefix). FollowsMessage c.config p c.peer 0
+    (subst (λ (p : GuidPrefix). FollowsMessage c.roster p c.peer 0
     (receiver_of h.message.prefix) h.message.submessages old report.moves report.refused dues new)
     (sym name) h.follows)
   where

@@ -2,7 +2,7 @@
 use Rattle.std.proofs.Common.{◌≡◌, ℕ, ℤ, zero, suc, List, [], ◌∷◌, ◌++◌, Option, Some, None, subst, ap, sym, ◌∙◌, Contains, map, flat_map, refl, ⊎_elim, arith}
 use Rattle.std.specs.List.{AllByRecursion}
 use Rattle.dds_base.specs.declared.change.Change.{Change}
-use Rattle.dds_base.specs.declared.config.Config.{Config}
+use Rattle.dds_protocol.specs.Roster.{Roster}
 use Rattle.dds_base.specs.declared.guid.EntityId.{EntityId}
 use Rattle.dds_base.specs.declared.guid.GuidPrefix.{GuidPrefix}
 use Rattle.dds_base.specs.Kept.{change_at}
@@ -44,14 +44,14 @@ plain_at message own at s writable plain there =
     stands_all IsPlain own (receiver_of message.prefix) message.submessages there.index at s plain
     (stands_again message own at s writable there)
 
-pub plain_beats : (config : Config) (message : Message) (w : Endpoint) (count : ℤ) → IsWritable message
-    → AllByRecursion IsPlain message.submessages → HasHeartbeat config (spelling_of message) w count → ⊥
-plain_beats config message w count writable plain h =
+pub plain_beats : (roster : Roster) (message : Message) (w : Endpoint) (count : ℤ) → IsWritable message
+    → AllByRecursion IsPlain message.submessages → HasHeartbeat roster (spelling_of message) w count → ⊥
+plain_beats roster message w count writable plain h =
     plain_at message h.own h.at (Heartbeat h.heartbeat) writable plain h.there
 
-pub plain_asks : (config : Config) (message : Message) (w r : Endpoint) (count : ℤ) → IsWritable message
-    → AllByRecursion IsPlain message.submessages → HasAckNack config (spelling_of message) w r count → ⊥
-plain_asks config message w r count writable plain h =
+pub plain_asks : (roster : Roster) (message : Message) (w r : Endpoint) (count : ℤ) → IsWritable message
+    → AllByRecursion IsPlain message.submessages → HasAckNack roster (spelling_of message) w r count → ⊥
+plain_asks roster message w r count writable plain h =
     plain_at message h.own h.at (AckNack h.acknack) writable plain h.there
 
 -- ---- answers, and changes that are announced
@@ -106,19 +106,19 @@ ask_of d (AckNack a) = a
 ask_of d _ = d
 
 -- an ACKNACK alone
-pub one_ask : (config : Config) (own to : GuidPrefix) (body : AckNackBody) (w r : Endpoint) (count : ℤ)
+pub one_ask : (roster : Roster) (own to : GuidPrefix) (body : AckNackBody) (w r : Endpoint) (count : ℤ)
     → IsWritable (message_to own to (AckNack body ∷ []))
-    → HasAckNack config (spelling_of (message_to own to (AckNack body ∷ []))) w r count
-    → (far : GuidPrefix) × IsToWriter config far (addressed own to) body.reader_id body.writer_id w r
+    → HasAckNack roster (spelling_of (message_to own to (AckNack body ∷ []))) w r count
+    → (far : GuidPrefix) × IsToWriter roster far (addressed own to) body.reader_id body.writer_id w r
     × (count ≡ body.count)
 unfolding ask_of
-one_ask config own to body w r count writable h =
+one_ask roster own to body w r count writable h =
     let here =
     read_alone own to (AckNack body) h.own h.at (AckNack h.acknack) writable h.there (no_ask h.acknack to) in
     let is : h.acknack ≡ body = ap (λ (s : Submessage). ask_of body s) here.1 in (
       h.own,
-      subst (λ (b : AckNackBody). IsToWriter config h.own (addressed own to) b.reader_id b.writer_id w r) is
-          (subst (λ (x : Receiver). IsToWriter config h.own x h.acknack.reader_id h.acknack.writer_id w r) here.0
+      subst (λ (b : AckNackBody). IsToWriter roster h.own (addressed own to) b.reader_id b.writer_id w r) is
+          (subst (λ (x : Receiver). IsToWriter roster h.own x h.acknack.reader_id h.acknack.writer_id w r) here.0
           h.is_to),
       sym h.same_count ∙ ap (λ (b : AckNackBody). b.count) is,
     )
@@ -134,10 +134,10 @@ one_sought wanted to x other h =
     (front_or_rest x [] h.0 later.0 later.1 later.2))
     (front_or_rest (InfoDst to) (x ∷ []) h.0 h.1.0 h.1.1 h.1.2)
 
-pub one_ask_beats : (config : Config) (own to : GuidPrefix) (body : AckNackBody) (w : Endpoint) (count : ℤ)
+pub one_ask_beats : (roster : Roster) (own to : GuidPrefix) (body : AckNackBody) (w : Endpoint) (count : ℤ)
     → IsWritable (message_to own to (AckNack body ∷ []))
-    → HasHeartbeat config (spelling_of (message_to own to (AckNack body ∷ []))) w count → ⊥
-one_ask_beats config own to body w count writable h =
+    → HasHeartbeat roster (spelling_of (message_to own to (AckNack body ∷ []))) w count → ⊥
+one_ask_beats roster own to body w count writable h =
     let here =
     read_alone own to (AckNack body) h.own h.at (Heartbeat h.heartbeat) writable h.there (no_beat h.heartbeat to) in
     let e = here.1 in absurd cc

@@ -7,7 +7,7 @@ use Rattle.std.proofs.lemmas.Bool.{and_parts, cases_lt, leb-true}
 use Rattle.std.proofs.lemmas.Bool.Decides.{nat_tests}
 use Rattle.std.proofs.lemmas.List.Elements.{All-cons, All-head, All-map, All-nil, All-tail, All-weaker, filter_passes}
 use Rattle.dds_base.specs.declared.change.Change.{Change}
-use Rattle.dds_base.specs.declared.config.Config.{Config}
+use Rattle.dds_protocol.specs.Roster.{IsRoster, Roster}
 use Rattle.dds_base.specs.declared.guid.EntityId.{EntityId}
 use Rattle.dds_base.specs.declared.guid.GuidPrefix.{GuidPrefix}
 use Rattle.dds_base.specs.Kept.{WriterHistory, change_at, is_kept, numbers_from}
@@ -31,24 +31,23 @@ use Rattle.dds_protocol.specs.Peer.{IsTrueAt}
 use Rattle.dds_protocol.specs.DueMessages.{Due, answer_message, data_of, submessages_of}
 use Rattle.dds_protocol.specs.Protocol.{State, TakesAckNack, WriterTakes, AreGrouped, answered_from, has_for}
 use Rattle.dds_protocol.specs.Dues.{IsTellable, AreTellable, IsTruthful, AreTruthful}
-use Rattle.dds_protocol.specs.Roster.{IsRoster}
 use Rattle.dds_protocol.proofs.Dues.{addressed, told_to, ts_says}
 use Rattle.dds_protocol.proofs.DuesAcknacks.{none_due}
 use Rattle.dds_protocol.proofs.DuesUnkept.{Passes, unkept_dropped}
-use Rattle.dds_protocol.proofs.OwnGuids.{one_named, one_writer}
+use Rattle.dds_protocol.proofs.OneName.{one_named, one_writer}
 use Rattle.dds_protocol.proofs.RuledReaders.{Coming}
 use Rattle.dds_machine.proofs.Tables.{numbered-same, acknowledged-hits}
 
 -- a writer that answers, which the configuration has, and whose changes can be told
 pub record Answering : Type 0 where
-  pub config : Config
-  pub checked : IsRoster config.peers
+  pub roster : Roster
+  pub checked : IsRoster roster
   pub peer : ℕ
   pub number : ℕ
   pub part : Part
   pub own : GuidPrefix
   pub entity : EntityId
-  pub name : IsWriter config own entity (record { peer = peer; number = number })
+  pub name : IsWriter roster own entity (record { peer = peer; number = number })
   pub writer : Writer
   pub is : own_writer part number ≡ writer
   pub tellable : (n : ℕ) (c : Change) → change_at (writer_changes writer) n ≡ Some c → IsTellable c
@@ -56,7 +55,7 @@ pub record Answering : Type 0 where
   pub reader : Endpoint
   pub to : GuidPrefix
   pub reader_entity : EntityId
-  pub asks : IsReader config to reader_entity reader
+  pub asks : IsReader roster to reader_entity reader
 
 -- the message is from the writer's peer, and this part of it for the reader's
 abbrev IsBetweenPeers : Answering → Receiver → Type 0
@@ -64,16 +63,16 @@ IsBetweenPeers x r = (r.source_guid_prefix ≡ x.own) × (r.dest_guid_prefix ≡
 
 -- the reader that a GAP names is the one that asked
 asked_by : (x : Answering) (far : GuidPrefix) (at : Receiver) → at.dest_guid_prefix ≡ x.to → (w r : Endpoint)
-    → IsToReader x.config far at x.reader_entity x.entity w r → r ≡ x.reader
+    → IsToReader x.roster far at x.reader_entity x.entity w r → r ≡ x.reader
 asked_by x far at dest w r h =
-    one_named x.config x.to x.reader_entity x.entity far at w r x.reader x.checked dest x.asks h
+    one_named x.roster x.to x.reader_entity x.entity far at w r x.reader x.checked dest x.asks h
 
 -- the name in a submessage is that of the writer
-named : (x : Answering) (prefix : GuidPrefix) → prefix ≡ x.own → (w : Endpoint) → IsWriter x.config prefix x.entity w
+named : (x : Answering) (prefix : GuidPrefix) → prefix ≡ x.own → (w : Endpoint) → IsWriter x.roster prefix x.entity w
     → w ≡ record { peer = x.peer; number = x.number }
 named x prefix source w h =
-    one_writer x.config x.own x.entity w (record { peer = x.peer; number = x.number }) x.checked
-    (subst (λ (p : GuidPrefix). IsWriter x.config p x.entity w) source h) x.name
+    one_writer x.roster x.own x.entity w (record { peer = x.peer; number = x.number }) x.checked
+    (subst (λ (p : GuidPrefix). IsWriter x.roster p x.entity w) source h) x.name
 
 -- the writer of that name, as the part has it
 written_there : (x : Answering) (w : Endpoint) → w ≡ record { peer = x.peer; number = x.number }
@@ -93,7 +92,7 @@ gap_with x reader first last =
 data_says : (x : Answering) (reader : EntityId) (far : GuidPrefix) (at : Receiver) (n : ℕ) (c : Change)
     → at.source_guid_prefix ≡ x.own → (is_for at far ≡ true → at.timestamp ≡ c.source_timestamp)
     → change_at (writer_changes x.writer) n ≡ Some c → (claim : Claim)
-    → Says x.config far at (data_with x reader n c) claim → IsTrueAt x.peer x.part claim
+    → Says x.roster far at (data_with x reader n c) claim → IsTrueAt x.peer x.part claim
 data_says x reader far at n c source time there (MayPass w r k) h = absurd h
 data_says x reader far at n c source time there (PlaceReached w r b) h = absurd h
 data_says x reader far at n c source time there (Asserts w r k) h = absurd h
@@ -112,7 +111,7 @@ data_says x reader far at n c source time there (ChangeIs w r k d) h =
 -- a GAP from one number to another names no others
 gap_says : (x : Answering) (far : GuidPrefix) (at : Receiver) (first last : ℕ) → IsBetweenPeers x at
     → ((n : ℕ) → first ≤ n → n ≤ last → Passes x.writer x.reader n) → (claim : Claim)
-    → Says x.config far at (gap_with x x.reader_entity first last) claim → IsTrueAt x.peer x.part claim
+    → Says x.roster far at (gap_with x x.reader_entity first last) claim → IsTrueAt x.peer x.part claim
 gap_says x far at first last between passes (ChangeIs w r n c) h = absurd h
 gap_says x far at first last between passes (PlaceReached w r b) h = absurd h
 gap_says x far at first last between passes (Asserts w r k) h = absurd h
@@ -162,7 +161,7 @@ told_of x reader answers = flat_map (submessages_of (writer_changes x.writer) re
 abbrev SayTrue : Answering → GuidPrefix → Receiver → List Submessage → Type 0
 SayTrue x far r ss =
     (index : ℕ) (at : Receiver) (s : Submessage) → StandsAt far r ss index at s → (claim : Claim)
-    → Says x.config far at s claim → IsTrueAt x.peer x.part claim
+    → Says x.roster far at s claim → IsTrueAt x.peer x.part claim
 
 -- the submessages for a change, and what follows
 data_first : (x : Answering) (reader : EntityId) (far : GuidPrefix) (r : Receiver) (n : ℕ) (o : Option Change)
@@ -172,8 +171,8 @@ data_first : (x : Answering) (reader : EntityId) (far : GuidPrefix) (r : Receive
 data_first x reader far r n None rest between there later index at s stands claim h =
     later r between index at s stands claim h
 data_first x reader far r n (Some c) rest between there later zero at s stands claim h =
-    absurd (ts_says x.config far at (Some c.source_timestamp) claim
-    (subst (λ (y : Submessage). Says x.config far at y claim) stands.1 h))
+    absurd (ts_says x.roster far at (Some c.source_timestamp) claim
+    (subst (λ (y : Submessage). Says x.roster far at y claim) stands.1 h))
 data_first x reader far r n (Some c) rest between there later (suc zero) at s stands claim h =
     let after : Receiver = after_submessage far r (InfoTs (Some c.source_timestamp)) in
     let from : after.source_guid_prefix ≡ x.own =
@@ -184,7 +183,7 @@ data_first x reader far r n (Some c) rest between there later (suc zero) at s st
     (ap (λ (y : Receiver). is_for y far) (sym stands.0) ∙ for)
     ∙ early_is c.source_timestamp (x.tellable n c there).early) in
     data_says x reader far at n c (ap (λ (y : Receiver). y.source_guid_prefix) stands.0 ∙ from) time there claim
-    (subst (λ (y : Submessage). Says x.config far at y claim) stands.1 h)
+    (subst (λ (y : Submessage). Says x.roster far at y claim) stands.1 h)
 data_first x reader far r n (Some c) rest between there later (suc (suc index)) at s stands claim h =
     later (after_submessage far r (InfoTs (Some c.source_timestamp))) (
       sourced (is_for r far) r (stamp_of (Some c.source_timestamp)) ∙ between.0,
@@ -198,7 +197,7 @@ gap_first x far r first last rest between passes later zero at s stands claim h 
     gap_says x far at first last (
       ap (λ (y : Receiver). y.source_guid_prefix) stands.0 ∙ between.0,
       ap (λ (y : Receiver). y.dest_guid_prefix) stands.0 ∙ between.1,
-    ) passes claim (subst (λ (y : Submessage). Says x.config far at y claim) stands.1 h)
+    ) passes claim (subst (λ (y : Submessage). Says x.roster far at y claim) stands.1 h)
 gap_first x far r first last rest between passes later (suc index) at s stands claim h =
     later index at s stands claim h
 
@@ -224,9 +223,9 @@ answers_due x peer answers =
 
 -- That message is true.
 answers_truthful : (x : Answering) (peer : ℕ) (answers : List Answer)
-    → All (ArePassed x) answers → IsTruthful x.config x.peer x.part (answers_due x peer answers)
+    → All (ArePassed x) answers → IsTruthful x.roster x.peer x.part (answers_due x peer answers)
 answers_truthful x peer answers passed claim writable says =
-    let t = told_to x.config x.own x.to (told_of x x.reader_entity answers) claim writable says in
+    let t = told_to x.roster x.own x.to (told_of x x.reader_entity answers) claim writable says in
     answers_say x t.far answers passed (addressed x.own x.to) (refl, refl) t.index t.at t.submessage t.stands claim t.says
 
 -- ---- the answers to an ACKNACK
@@ -350,10 +349,10 @@ has_writer part (suc i) a r h = (omega arith, within part.rtps.writers i h)
 
 -- what a writer answers to an ACKNACK is true
 acknack_answered : (c : Coming) (a : AckNackBody) (w : ℕ) (r : Endpoint)
-    (is : IsToWriter c.config c.own c.at a.reader_id a.writer_id (record { peer = c.peer; number = w }) r)
+    (is : IsToWriter c.roster c.own c.at a.reader_id a.writer_id (record { peer = c.peer; number = w }) r)
     → 1 ≤ a.reader_sn_state.base
     → (old : State) (made : List Move) (dues : List Due) (new : State) → AreTellable old.part
-    → TakesAckNack c.own c.at old w r is.entity a made dues new → AreTruthful c.config c.peer new.part dues
+    → TakesAckNack c.own c.at old w r is.entity a made dues new → AreTruthful c.roster c.peer new.part dues
 acknack_answered c a w r is low old made dues new tellable k =
     let before : Writer = own_writer old.part w in
     let acked : ℕ = max k.acknowledged a.reader_sn_state.base in
@@ -361,7 +360,7 @@ acknack_answered c a w r is low old made dues new tellable k =
     let here : own_writer part w ≡ k.there =
     numbered-same old.part.rtps.writers w k.there no_writer (has_writer old.part w k.acknowledged r k.matched) in
     let x : Answering = record {
-      config = c.config;
+      roster = c.roster;
       checked = c.checked;
       peer = c.peer;
       number = w;
@@ -391,17 +390,17 @@ acknack_answered c a w r is low old made dues new tellable k =
       message = answer_message c.own c.at.source_guid_prefix is.entity a.writer_id
           (writer_changes k.there) group;
     } in
-    let sent : AreTruthful c.config c.peer part (map message k.groups) =
-    All-map (IsTruthful c.config c.peer part) message k.groups
-    (All-weaker (All (ArePassed x)) (λ (group : List Answer). IsTruthful c.config c.peer part (message group))
+    let sent : AreTruthful c.roster c.peer part (map message k.groups) =
+    All-map (IsTruthful c.roster c.peer part) message k.groups
+    (All-weaker (All (ArePassed x)) (λ (group : List Answer). IsTruthful c.roster c.peer part (message group))
     (λ group all. answers_truthful x r.peer group all) k.groups passed) in
-    subst (λ (ds : List Due). AreTruthful c.config c.peer new.part ds) (sym k.dues_are)
-    (subst (λ (s : State). AreTruthful c.config c.peer s.part (map message k.groups)) (sym k.after) sent)
+    subst (λ (ds : List Due). AreTruthful c.roster c.peer new.part ds) (sym k.dues_are)
+    (subst (λ (s : State). AreTruthful c.roster c.peer s.part (map message k.groups)) (sym k.after) sent)
 
 -- what is due once a writer took an ACKNACK up is true
 pub writer_truthful : (c : Coming) (a : AckNackBody) → 1 ≤ a.reader_sn_state.base
     → (w : ℕ) (r : Endpoint) (old : State) (made : List Move) (dues : List Due) (new : State) → AreTellable old.part
-    → WriterTakes c.config c.own c.peer c.at a w r old made dues new → AreTruthful c.config c.peer new.part dues
+    → WriterTakes c.roster c.own c.peer c.at a w r old made dues new → AreTruthful c.roster c.peer new.part dues
 writer_truthful c a low w r old made dues new tellable (inl h) =
     acknack_answered c a w r h.0 low old made dues new tellable h.2
 writer_truthful c a low w r old made dues new tellable (inr h) = none_due c new.part dues h.1.1

@@ -7,7 +7,7 @@ use Rattle.std.proofs.lemmas.Bool.Decides.{nat_tests}
 use Rattle.std.proofs.lemmas.List.Elements.{All-map, All-nil}
 use Rattle.dds_base.specs.declared.code.Code.{Code}
 use Rattle.dds_base.specs.declared.code.Code.TheVariants.{BadParameter, OutOfResources}
-use Rattle.dds_base.specs.declared.config.Config.{Config}
+use Rattle.dds_protocol.specs.Roster.{IsRoster, Roster}
 use Rattle.dds_base.specs.declared.guid.GuidPrefix.{GuidPrefix}
 use Rattle.dds_base.specs.Written.{Asserted, counts_of}
 use Rattle.rtps_wire.specs.declared.heartbeat.Heartbeat.{Heartbeat as HeartbeatBody}
@@ -24,7 +24,6 @@ use Rattle.dds_protocol.specs.Peer.{IsTrueAt}
 use Rattle.dds_protocol.specs.Contact.{Contact}
 use Rattle.dds_protocol.specs.DueMessages.{Due, heartbeats_due_to, assertions_due}
 use Rattle.dds_protocol.specs.Dues.{IsPartOf, IsTruthful, AreTruthful, IsSized, HasSmallChanges, HasFewMatches, CanBeWritten}
-use Rattle.dds_protocol.specs.Roster.{IsRoster}
 use Rattle.dds_protocol.proofs.DuesFew.{matched_few}
 use Rattle.dds_protocol.proofs.DuesGrowth.{true_on}
 use Rattle.dds_protocol.proofs.DuesHeartbeats.{Beating, IsBeatOf, SaysAt, all_of, due_says, due_writable, first_says, names_writer}
@@ -33,23 +32,23 @@ use Rattle.dds_protocol.proofs.Growth.{CallStep-grows, CallStep-readers}
 use Rattle.dds_machine.proofs.Tables.{no_less_same, number_there, numbered-same}
 
 -- the message that tells an assertion of the peer's writer to the peer of this number
-abbrev pub assertion_due : Config → (Endpoint → Contact) → ℕ → Part → ℕ → ℕ → Due
-assertion_due config contacts peer part number to =
-    heartbeats_due_to config true true peer number contacts (own_writer part number) (own_writer part number).matched to
+abbrev pub assertion_due : Roster → (Endpoint → Contact) → ℕ → Part → ℕ → ℕ → Due
+assertion_due roster contacts peer part number to =
+    heartbeats_due_to roster true true peer number contacts (own_writer part number) (own_writer part number).matched to
 
 -- it is so of each message that tells an assertion of a writer that is there and has readers
-abbrev pub OfEachTold : Config → (Endpoint → Contact) → ℕ → Part → ℕ → (Due → Type 0) → Type 0
-OfEachTold config contacts peer part number P =
+abbrev pub OfEachTold : Roster → (Endpoint → Contact) → ℕ → Part → ℕ → (Due → Type 0) → Type 0
+OfEachTold roster contacts peer part number P =
     HasNumber part.rtps.writers number → has_readers (own_writer part number) ≡ true → (to : ℕ)
-    → P (assertion_due config contacts peer part number to)
+    → P (assertion_due roster contacts peer part number to)
 
-pub told_each : (config : Config) (contacts : Endpoint → Contact) (peer : ℕ) (part : Part) (number : ℕ)
-    (P : Due → Type 0) → OfEachTold config contacts peer part number P
-    → All P (assertions_due config contacts (record { peer = peer; number = number }) (own_writer part number))
-told_each config contacts peer part number P each = by (own_writer part number).matched refl
+pub told_each : (roster : Roster) (contacts : Endpoint → Contact) (peer : ℕ) (part : Part) (number : ℕ)
+    (P : Due → Type 0) → OfEachTold roster contacts peer part number P
+    → All P (assertions_due roster contacts (record { peer = peer; number = number }) (own_writer part number))
+told_each roster contacts peer part number P each = by (own_writer part number).matched refl
   where
     tell : ℕ → Due
-    tell = assertion_due config contacts peer part number
+    tell = assertion_due roster contacts peer part number
 
     there : (e : Endpoint) (es : List Endpoint) → (own_writer part number).matched ≡ e ∷ es
         → HasNumber part.rtps.writers number
@@ -129,18 +128,18 @@ told_says b tests new t to h is far (Asserts v r k) says =
       ap (λ (e : Endpoint). is_assertion (own_writer new e.number) k) same ∙ asserts,
     )
 
-pub assertions_true : (config : Config) (tests : Tests) (contacts : Endpoint → Contact) (peer writer : ℕ)
-    (old new : Part) → IsRoster config.peers → IsPartOf config peer old
+pub assertions_true : (roster : Roster) (tests : Tests) (contacts : Endpoint → Contact) (peer writer : ℕ)
+    (old new : Part) → IsRoster roster → IsPartOf roster peer old
     → CallStep tests old (AssertLiveliness writer) Done new
-    → AreTruthful config peer new
-    (assertions_due config contacts (record { peer = peer; number = writer }) (own_writer old writer))
-assertions_true config tests contacts peer writer old new checked of step =
-    told_each config contacts peer old writer (IsTruthful config peer new)
+    → AreTruthful roster peer new
+    (assertions_due roster contacts (record { peer = peer; number = writer }) (own_writer old writer))
+assertions_true roster tests contacts peer writer old new checked of step =
+    told_each roster contacts peer old writer (IsTruthful roster peer new)
     (λ there matched to claim writable says.
-    let own : OwnName config peer old writer = own_name config peer old of writer there in
+    let own : OwnName roster peer old writer = own_name roster peer old of writer there in
     let b : Beating =
     record {
-      config = config;
+      roster = roster;
       checked = checked;
       peer = peer;
       part = old;
@@ -165,14 +164,14 @@ left_if_done true true h = cc
 left_if_done true false h = refl
 left_if_done false b h = cc
 
-pub assertions_writable : (config : Config) (tests : Tests) (contacts : Endpoint → Contact) (peer writer : ℕ)
-    (old new : Part) → IsPartOf config peer old → CallStep tests old (AssertLiveliness writer) Done new
-    → IsSized config → HasSmallChanges old → HasFewMatches old
+pub assertions_writable : (roster : Roster) (tests : Tests) (contacts : Endpoint → Contact) (peer writer : ℕ)
+    (old new : Part) → IsPartOf roster peer old → CallStep tests old (AssertLiveliness writer) Done new
+    → IsSized roster → HasSmallChanges old → HasFewMatches old
     → All CanBeWritten
-    (assertions_due config contacts (record { peer = peer; number = writer }) (own_writer old writer))
-assertions_writable config tests contacts peer writer old new of step sized small few =
-    told_each config contacts peer old writer CanBeWritten
-    (λ there matched to places. due_writable config true true peer old writer to contacts
+    (assertions_due roster contacts (record { peer = peer; number = writer }) (own_writer old writer))
+assertions_writable roster tests contacts peer writer old new of step sized small few =
+    told_each roster contacts peer old writer CanBeWritten
+    (λ there matched to places. due_writable roster true true peer old writer to contacts
     (own_writer old writer).matched of sized small there (matched_few (own_writer old writer) (few writer)) left)
   where
     used : nat_le (2 ^ 31 - 1) (heartbeats_used (own_writer old writer)) ≡ false

@@ -2,7 +2,7 @@
 use Rattle.std.proofs.Common.{◌≡◌, ◌⊎◌, ℕ, ◌<◌, List, [], ◌∷◌, Option, Some, length, refl, subst, ap, sym, ◌∙◌, inl, inr, ⊎_elim, arith}
 use Rattle.std.proofs.lemmas.List.Elements.{All-weaker}
 use Rattle.dds_base.specs.declared.change.Change.{Change}
-use Rattle.dds_base.specs.declared.config.Config.{Config}
+use Rattle.dds_protocol.specs.Roster.{Roster}
 use Rattle.dds_base.specs.Kept.{change_at}
 use Rattle.dds_base.specs.Written.{Written, changes_of}
 use Rattle.dds_base.specs.declared.endpoint.Endpoint.{Endpoint}
@@ -48,16 +48,19 @@ true_on peer old new g a (PlaceReached w r base) h = (
 true_on peer old new g a (Asserts w r count) h =
     (h.0, assertion-grows (own_writer old w.number) (own_writer new w.number) count (g.writers w.number) h.1)
 
-pub truthful_on : (config : Config) (peer : ℕ) (old new : Part) → Grows old.rtps new.rtps → KeepsAcknowledged old new
-    → (dues : List Due) → AreTruthful config peer old dues → AreTruthful config peer new dues
-truthful_on config peer old new g a dues h =
-    All-weaker (IsTruthful config peer old) (IsTruthful config peer new)
+pub truthful_on : (roster : Roster) (peer : ℕ) (old new : Part) → Grows old.rtps new.rtps → KeepsAcknowledged old new
+    → (dues : List Due) → AreTruthful roster peer old dues → AreTruthful roster peer new dues
+truthful_on roster peer old new g a dues h =
+    All-weaker (IsTruthful roster peer old) (IsTruthful roster peer new)
     (λ due t claim writable says. true_on peer old new g a claim (t claim writable says)) dues h
 
 -- as many writers are there
-pub is_part_kept : (config : Config) (peer : ℕ) (old new : Part) → length new.rtps.writers ≡ length old.rtps.writers
-    → IsPartOf config peer old → IsPartOf config peer new
-is_part_kept config peer old new count h = record { here = h.here; at = h.at; writers = count ∙ h.writers }
+pub is_part_kept : (roster : Roster) (peer : ℕ) (old new : Part) → length new.rtps.writers ≡ length old.rtps.writers
+    → IsPartOf roster peer old → IsPartOf roster peer new
+is_part_kept roster peer old new count h number there =
+    let low = there.0 in
+    let high = there.1 in
+    h number (low, omega (arith, high, count))
 
 -- ---- what a packet does: places and acknowledgements go on, and nothing is written
 
@@ -167,9 +170,9 @@ AreMoves-gains g old (m ∷ ms) new h =
     gains_on old h.0 new (IsMove-gains g old m h.0 h.1) (AreMoves-gains g h.0 ms new h.2)
 
 -- what is due stays true
-pub truthful_gained : (config : Config) (peer : ℕ) (old new : Part) → Gains old new → (dues : List Due)
-    → AreTruthful config peer old dues → AreTruthful config peer new dues
-truthful_gained config peer old new g dues h = truthful_on config peer old new g.grows g.acknowledged dues h
+pub truthful_gained : (roster : Roster) (peer : ℕ) (old new : Part) → Gains old new → (dues : List Due)
+    → AreTruthful roster peer old dues → AreTruthful roster peer new dues
+truthful_gained roster peer old new g dues h = truthful_on roster peer old new g.grows g.acknowledged dues h
 
 -- changes that can be told stay so
 pub tellable_gained : (old new : Part) → Gains old new → AreTellable old → AreTellable new

@@ -1,29 +1,24 @@
--- A writer and a reader of a configuration have their names there, and each reader of a topic has a row at its writers.
-use Rattle.std.proofs.Common.{◌≡◌, ◌⊎◌, ℕ, zero, suc, ◌+◌, ◌-◌, ◌<◌, Bool, true, false, ◌&&◌, cond, List, [], ◌∷◌, Option, Some, Contains, map, length, slice_get, refl, subst, ap, sym, ◌∙◌, inl, inr, ⊎_elim, arith, eq-eqb}
+-- A writer and a reader of a roster have their names there; and each reader of a topic of a configuration is among those
+-- that it names.
+use Rattle.std.proofs.Common.{◌≡◌, ◌⊎◌, ℕ, zero, suc, ◌+◌, Bool, true, false, ◌&&◌, cond, List, [], ◌∷◌, Option, Some, None, Contains, map, slice_get, IsSome, refl, subst, ap, sym, ◌∙◌, inl, inr, ⊎_elim, arith, eq-eqb}
 use Rattle.std.specs.Option.{option_map, option_map_or}
-use Rattle.std.proofs.lemmas.List.{length-map}
 use Rattle.std.proofs.lemmas.List.Elements.{Contains-append_left, Contains-append_right}
 use Rattle.std.proofs.lemmas.Option.{same_Some}
-use Rattle.dds_base.specs.declared.config.Config.{Config}
+use Rattle.dds_protocol.specs.Roster.{Roster}
 use Rattle.dds_base.specs.declared.config.PeerConfig.{PeerConfig}
 use Rattle.dds_base.specs.declared.config.ReaderConfig.{ReaderConfig}
-use Rattle.dds_base.specs.declared.config.WriterConfig.{WriterConfig}
 use Rattle.dds_base.specs.declared.guid.EntityId.{EntityId}
 use Rattle.dds_base.specs.declared.guid.GuidPrefix.{GuidPrefix}
-use Rattle.dds_base.specs.Checked.{unknown_prefix}
 use Rattle.dds_base.specs.Matched.{same_topic, is_reliable_reader, of_reliable_readers}
 use Rattle.dds_base.specs.MatchedAt.{of_readers_in}
 use Rattle.dds_base.specs.declared.endpoint.Endpoint.{Endpoint}
-use Rattle.dds_machine.specs.Numbered.{numbered, HasNumber}
+use Rattle.dds_machine.specs.Numbered.{HasNumber}
 use Rattle.dds_machine.specs.Part.{Part, ReaderProxy, same_endpoint, row_of, acknowledged_of}
-use Rattle.dds_machine.proofs.Tables.{number_there}
-use Rattle.dds_protocol.specs.Claims.{IsNumbered, IsReader, IsWriter, every_reader, participant_entity}
-use Rattle.dds_protocol.specs.Receipt.{prefix_of}
+use Rattle.dds_protocol.specs.Claims.{IsReader, IsWriter, every_reader, participant_entity}
 use Rattle.dds_protocol.specs.DueMessages.{reader_entity, writer_entity}
 use Rattle.dds_protocol.specs.Dues.{IsPartOf}
 use Rattle.dds_protocol.proofs.Composed.{front_or_rest, later_in}
 use Rattle.dds_protocol.proofs.InOrder.{same_self}
-use Rattle.dds_protocol.proofs.RuledPackets.{numbered_is}
 
 -- ---- rows
 
@@ -104,120 +99,44 @@ in_peers topic n (x ∷ xs) (suc i) p k r at within of reliable =
     (subst (λ (m : ℕ). Contains (names topic (n + 1) xs) (name_at m (1 + k))) over
     (in_peers topic (n + 1) xs i p k r at within of reliable))
 
--- ---- a peer's writers
+-- ---- by the roster
 
--- a writer of the peer, as the configuration has it
-pub record OwnName (config : Config) (peer : ℕ) (part : Part) (number : ℕ) : Type 0 where
-  pub name : IsWriter config (prefix_of config peer) (writer_entity config peer number) (name_at peer number)
+-- a writer of the peer, as the roster has it
+pub record OwnName (roster : Roster) (peer : ℕ) (part : Part) (number : ℕ) : Type 0 where
+  pub name : IsWriter roster (roster.prefix peer) (writer_entity roster peer number) (name_at peer number)
 
-get_some : {X : Type 0} (xs : List X) (i : ℕ) → i < length xs → (x : X) × (slice_get xs i ≡ Some x)
-get_some [] i lt = absurd (omega (arith, lt))
-get_some (x ∷ xs) zero lt = (x, refl)
-get_some (x ∷ xs) (suc i) lt = get_some xs i (omega (arith, lt))
+entity_some : (found : Option EntityId) (other : EntityId) → IsSome found
+    → found ≡ Some (option_map_or (λ entity. entity) found other)
+entity_some None other there = cc
+entity_some (Some entity) other there = refl
 
-pub own_name : (config : Config) (peer : ℕ) (part : Part) → IsPartOf config peer part → (number : ℕ)
-    → HasNumber part.rtps.writers number → OwnName config peer part number
-own_name config peer part of number there =
-    let low = there.0 in
-    let high = there.1 in
-    let count = of.writers in
-    let found = get_some of.here.writers (number - 1) (omega (arith, low, high, count)) in
-    let at : IsNumbered of.here.writers number found.0 = (low, found.1) in
-    record {
-      name = record {
-        peer = of.here;
-        at_peer = of.at;
-        same_prefix = ap (λ (p : PeerConfig). p.prefix) (sym (numbered_is config.peers peer of.here _ of.at.0 of.at.1));
-        end = found.0;
-        at_writer = at;
-        same_entity =
-            sym (ap (λ (o : Option PeerConfig). option_map_or
-            (λ (p : PeerConfig). option_map_or (λ (w : WriterConfig). w.entity)
-            (slice_get p.writers (number - 1)) every_reader) o every_reader) of.at.1
-            ∙ ap (λ (o : Option WriterConfig). option_map_or (λ (w : WriterConfig). w.entity) o every_reader) found.1);
-      };
-    }
+pub own_name : (roster : Roster) (peer : ℕ) (part : Part) → IsPartOf roster peer part → (number : ℕ)
+    → HasNumber part.rtps.writers number → OwnName roster peer part number
+own_name roster peer part of number there = record {
+  name = record {
+    same_prefix = refl;
+    at_writer = entity_some (roster.writers (name_at peer number)) every_reader (of number there);
+  };
+}
 
--- ---- a peer's readers
+-- the entity id of a reader that the roster has
+pub reader_entity_is : (roster : Roster) (prefix : GuidPrefix) (entity : EntityId) (r : Endpoint)
+    → IsReader roster prefix entity r → reader_entity roster r.peer r.number ≡ entity
+reader_entity_is roster prefix entity r is =
+    ap (λ (o : Option EntityId). option_map_or (λ e. e) o participant_entity) is.at_reader
 
--- the peer of this number, or one that has nothing
-abbrev peer_there : Config → ℕ → PeerConfig
-peer_there config n = numbered config.peers n (record { prefix = unknown_prefix; writers = []; readers = [] })
-
-get_map : {X Y : Type 0} (f : X → Y) (xs : List X) (i : ℕ) (x : X) → slice_get xs i ≡ Some x
-    → slice_get (map f xs) i ≡ Some (f x)
-get_map f [] i x at = cc
-get_map f (y ∷ ys) zero x at = ap (λ z. Some (f z)) (same_Some y x at)
-get_map f (y ∷ ys) (suc i) x at = get_map f ys i x at
-
-entity_there : (ps : List ReaderConfig) (k : ℕ) (r : ReaderConfig) → IsNumbered ps k r
-    → numbered (map (λ (x : ReaderConfig). x.entity) ps) k participant_entity ≡ r.entity
-entity_there ps k r at =
-    numbered_is (map (λ (x : ReaderConfig). x.entity) ps) k r.entity participant_entity at.0
-    (get_map (λ (x : ReaderConfig). x.entity) ps (k - 1) r at.1)
-
--- the entity id of a reader that the configuration has
-pub reader_entity_is : (config : Config) (prefix : GuidPrefix) (entity : EntityId) (r : Endpoint)
-    → IsReader config prefix entity r → reader_entity config r.peer r.number ≡ entity
-reader_entity_is config prefix entity r is =
-    ap (λ (p : PeerConfig). numbered (map (λ (x : ReaderConfig). x.entity) p.readers) r.number participant_entity)
-    (numbered_is config.peers r.peer is.peer _ is.at_peer.0 is.at_peer.1)
-    ∙ (entity_there is.peer.readers r.number is.end is.at_reader ∙ is.same_entity)
-
-none_there : {X : Type 0} (n : ℕ) (x : X) → numbered [] n x ≡ x
-none_there zero x = refl
-none_there (suc n) x = refl
-
--- the element of a number that there is
-element : {X : Type 0} (xs : List X) (n : ℕ) → HasNumber xs n → (x : X) × IsNumbered xs n x
-element xs n there =
-    let low = there.0 in
-    let high = there.1 in
-    let found = get_some xs (n - 1) (omega (arith, low, high)) in (found.0, (low, found.1))
-
--- the configuration has the reader, with that entity id, or this is no reader's
-pub reader_named : (config : Config) (r : Endpoint)
-    → IsReader config (prefix_of config r.peer) (reader_entity config r.peer r.number) r
-    ⊎ (reader_entity config r.peer r.number ≡ participant_entity)
-reader_named config r =
-    ⊎_elim (λ there. let p = element config.peers r.peer there in of_peer p.0 p.1) (λ e. inr (none e))
-    (number_there config.peers r.peer (peer_there config 0))
+-- the roster has the reader, with that entity id, or this is no reader's
+pub reader_named : (roster : Roster) (r : Endpoint)
+    → IsReader roster (roster.prefix r.peer) (reader_entity roster r.peer r.number) r
+    ⊎ (reader_entity roster r.peer r.number ≡ participant_entity)
+reader_named roster r = by (roster.readers r) refl
   where
-    entity_in : PeerConfig → EntityId
-    entity_in p = numbered (map (λ (x : ReaderConfig). x.entity) p.readers) r.number participant_entity
-
-    none : peer_there config r.peer ≡ peer_there config 0 → reader_entity config r.peer r.number ≡ participant_entity
-    none e = ap entity_in e ∙ none_there r.number participant_entity
-
-    of_peer : (p : PeerConfig) → IsNumbered config.peers r.peer p
-        → IsReader config (prefix_of config r.peer) (reader_entity config r.peer r.number) r
-        ⊎ (reader_entity config r.peer r.number ≡ participant_entity)
-    of_peer p at =
-        let same : peer_there config r.peer ≡ p = numbered_is config.peers r.peer p _ at.0 at.1 in
-        ⊎_elim
-        (λ there.
-        let high = there.1 in
-        let count = length-map p.readers (λ (x : ReaderConfig). x.entity) in
-        let found = element p.readers r.number (there.0, omega (arith, high, count)) in
-        inl (record {
-          peer = p;
-          at_peer = at;
-          same_prefix = ap (λ (x : PeerConfig). x.prefix) (sym same);
-          end = found.0;
-          at_reader = found.1;
-          same_entity = sym (ap entity_in same ∙ entity_there p.readers r.number found.0 found.1);
-        }))
-        (λ e. inr (ap entity_in same ∙ e))
-        (number_there (map (λ (x : ReaderConfig). x.entity) p.readers) r.number participant_entity)
-
--- two names of one writer are told of one entry
-pub same_end : (config : Config) (p q : GuidPrefix) (d e : EntityId) (v w : Endpoint) (x : IsWriter config p d v)
-    (y : IsWriter config q e w) → v ≡ w → x.end ≡ y.end
-same_end config p q d e v w x y same =
-    let at : slice_get config.peers (w.peer - 1) ≡ Some x.peer =
-    subst (λ (u : Endpoint). slice_get config.peers (u.peer - 1) ≡ Some x.peer) same x.at_peer.1 in
-    let peer : x.peer ≡ y.peer = same_Some x.peer y.peer (sym at ∙ y.at_peer.1) in
-    let within : slice_get y.peer.writers (w.number - 1) ≡ Some x.end =
-    subst (λ (z : PeerConfig). slice_get z.writers (w.number - 1) ≡ Some x.end) peer
-    (subst (λ (u : Endpoint). slice_get x.peer.writers (u.number - 1) ≡ Some x.end) same x.at_writer.1) in
-    same_Some x.end y.end (sym within ∙ y.at_writer.1)
+    by : (found : Option EntityId) → roster.readers r ≡ found
+        → IsReader roster (roster.prefix r.peer) (reader_entity roster r.peer r.number) r
+        ⊎ (reader_entity roster r.peer r.number ≡ participant_entity)
+    by None is = inr (ap (λ (o : Option EntityId). option_map_or (λ e. e) o participant_entity) is)
+    by (Some entity) is = inl (record {
+      same_prefix = refl;
+      at_reader = is ∙ ap (λ (e : EntityId). Some e)
+          (sym (ap (λ (o : Option EntityId). option_map_or (λ e. e) o participant_entity) is));
+    })

@@ -1,8 +1,8 @@
 -- All that a peer sends by the reliable protocol is true: what is due once a packet was taken up, and at a tick.
-use Rattle.std.proofs.Common.{◌≡◌, ℕ, ◌+◌, List, [], ◌∷◌, Option, Some, None, Contains, refl, subst, ap, sym, inl, inr, ⊎_elim, arith, length}
+use Rattle.std.proofs.Common.{◌≡◌, ℕ, ◌+◌, List, [], ◌∷◌, Option, Some, Contains, refl, subst, ap, sym, inl, inr, ⊎_elim, arith, length}
 use Rattle.std.specs.List.{All, AllByRecursion}
 use Rattle.std.proofs.lemmas.List.Elements.{All-append, All-contains, All-nil}
-use Rattle.dds_base.specs.declared.config.Config.{Config}
+use Rattle.dds_protocol.specs.Roster.{IsRoster, Roster}
 use Rattle.dds_base.specs.declared.endpoint.Endpoint.{Endpoint}
 use Rattle.rtps_wire.specs.declared.message.Message.{Message}
 use Rattle.rtps_wire.specs.declared.submessage.Submessage.{Submessage}
@@ -23,7 +23,6 @@ use Rattle.dds_protocol.specs.DueMessages.{Due, AreSent, heartbeats_due}
 use Rattle.dds_protocol.specs.Protocol.{State, FollowsMessage, TakesMessage, TakesPacket}
 use Rattle.dds_protocol.specs.Backed.{IsBacked}
 use Rattle.dds_protocol.specs.Dues.{AreTellable, IsPartOf, IsTruthful, AreTruthful, IsSized, HasSmallChanges, HasPlaces, CanBeWritten}
-use Rattle.dds_protocol.specs.Roster.{IsRoster}
 use Rattle.dds_protocol.proofs.Attached.{SameMet}
 use Rattle.dds_protocol.proofs.Composed.{front_or_rest, later_in}
 use Rattle.dds_protocol.proofs.DuesGrowth.{Gains, gains_same, gains_on, small_gained, truthful_gained, truthful_on}
@@ -58,11 +57,11 @@ bases_read bytes [] left h = tt
 bases_read bytes (s ∷ ss) left h = (base_read h.1.0 h.1.1 h.1.2 s h.1.4, bases_read h.0 ss left h.2)
 
 -- a message that comes to a peer
-abbrev arrival : (config : Config) (peer : ℕ) (before : List Delivery) (bytes : List ℕ) (rows : List (List WriterProxy))
-    → IsRoster config.peers
+abbrev arrival : (roster : Roster) (peer : ℕ) (before : List Delivery) (bytes : List ℕ) (rows : List (List WriterProxy))
+    → IsRoster roster
     → (message : Message) (offset : ℕ) → ReadsMessage bytes message offset → Arrival
-arrival config peer before bytes rows checked message offset is_read = record {
-  config = config;
+arrival roster peer before bytes rows checked message offset is_read = record {
+  roster = roster;
   checked = checked;
   peer = peer;
   before = before;
@@ -76,22 +75,22 @@ arrival config peer before bytes rows checked message offset is_read = record {
 -- the submessages from one on were taken up: what is due is true, and can be written
 record Followed (p : Arrival) (old : State) (dues : List Due) (new : State) : Type 0 where
   gains : Gains old.part new.part
-  truthful : AreTruthful p.config p.peer new.part dues
-  writable : IsSized p.config → HasSmallChanges old.part → All CanBeWritten dues
+  truthful : AreTruthful p.roster p.peer new.part dues
+  writable : IsSized p.roster → HasSmallChanges old.part → All CanBeWritten dues
 
 followed_none : (p : Arrival) (old : State) (dues : List Due) (new : State) → dues ≡ [] → new ≡ old
     → Followed p old dues new
 followed_none p old dues new none same = record {
   gains = subst (λ (s : State). Gains old.part s.part) (sym same) (gains_same old.part);
-  truthful = subst (λ (ds : List Due). AreTruthful p.config p.peer new.part ds) (sym none)
-      (All-nil (IsTruthful p.config p.peer new.part));
+  truthful = subst (λ (ds : List Due). AreTruthful p.roster p.peer new.part ds) (sym none)
+      (All-nil (IsTruthful p.roster p.peer new.part));
   writable = λ sized small. none_written dues none;
 }
 
 followed : (p : Arrival) (index : ℕ) (at : Receiver) (ss : List Submessage) → IsRest p index at ss
     → AllByRecursion HasBase ss → (old : State) (moves : List Move) (refused : Option ℕ) (dues : List Due) (new : State)
     → Backed p (Some index) old → SameMet p.rows old.part.rtps.readers → AreTellable old.part
-    → FollowsMessage p.config (own p) p.peer index at ss old moves refused dues new → Followed p old dues new
+    → FollowsMessage p.roster (own p) p.peer index at ss old moves refused dues new → Followed p old dues new
 followed p index at [] rest bases old moves refused dues new b met t h = followed_none p old dues new h.1.1 h.1.2
 followed p index at (s ∷ ss) rest bases old moves refused dues new b met t (inl h) =
     followed_none p old dues new h.1.1 h.1.2
@@ -111,22 +110,22 @@ followed p index at (s ∷ ss) rest bases old moves refused dues new b met t (in
     h.8 in
     record {
       gains = gains_on old.part mid.part new.part kept.gains later.gains;
-      truthful = subst (λ (ds : List Due). AreTruthful p.config p.peer new.part ds) (sym h.6)
-          (All-append (IsTruthful p.config p.peer new.part) h.2 h.3
-          (truthful_gained p.config p.peer mid.part new.part later.gains h.2 kept.truthful) later.truthful);
+      truthful = subst (λ (ds : List Due). AreTruthful p.roster p.peer new.part ds) (sym h.6)
+          (All-append (IsTruthful p.roster p.peer new.part) h.2 h.3
+          (truthful_gained p.roster p.peer mid.part new.part later.gains h.2 kept.truthful) later.truthful);
       writable = λ sized small. subst (λ (ds : List Due). All CanBeWritten ds) (sym h.6)
           (All-append CanBeWritten h.2 h.3 (kept.writable sized small)
           (later.writable sized (small_gained old.part mid.part kept.gains small)));
     }
 
 -- a message that was taken up
-message_followed : (config : Config) (peer : ℕ) (before : List Delivery) (bytes : List ℕ) (old : State)
-    (report : Report) (dues : List Due) (new : State) (checked : IsRoster config.peers)
-    → IsBacked config peer (packets_of before) before old → AreTellable old.part
-    → (h : TakesMessage config peer bytes old report dues new)
-    → Followed (arrival config peer before bytes old.part.rtps.readers checked h.message h.offset h.is_read) old dues new
-message_followed config peer before bytes old report dues new checked b t h =
-    let p : Arrival = arrival config peer before bytes old.part.rtps.readers checked h.message h.offset h.is_read in
+message_followed : (roster : Roster) (peer : ℕ) (before : List Delivery) (bytes : List ℕ) (old : State)
+    (report : Report) (dues : List Due) (new : State) (checked : IsRoster roster)
+    → IsBacked roster peer (packets_of before) before old → AreTellable old.part
+    → (h : TakesMessage roster peer bytes old report dues new)
+    → Followed (arrival roster peer before bytes old.part.rtps.readers checked h.message h.offset h.is_read) old dues new
+message_followed roster peer before bytes old report dues new checked b t h =
+    let p : Arrival = arrival roster peer before bytes old.part.rtps.readers checked h.message h.offset h.is_read in
     let all : IsRest p 0 (receiver_of h.message.prefix) h.message.submessages = record {
       stand = λ k later s e. subst (λ (n : ℕ). Stands p n later s) (omega arith) e;
       only = λ k later s e. subst (λ (n : ℕ). Stands p n later s) (omega arith) e;
@@ -138,48 +137,48 @@ message_followed config peer before bytes old report dues new checked b t h =
 
 -- What is due once a peer took a packet up is true: each message, once written, claims only what is so of the peer's
 -- own lists and places.
-pub packet_truthful : (config : Config) (peer : ℕ) (before : List Delivery) (bytes : List ℕ) (old : State)
-    (report : Report) (dues : List Due) (new : State) → IsRoster config.peers
-    → IsBacked config peer (packets_of before) before old → AreTellable old.part
-    → TakesPacket config peer bytes old report dues new → AreTruthful config peer new.part dues
-packet_truthful config peer before bytes old report dues new checked b t (inl h) =
-    (message_followed config peer before bytes old report dues new checked b t h).truthful
-packet_truthful config peer before bytes old report dues new checked b t (inr h) =
-    subst (λ (ds : List Due). AreTruthful config peer new.part ds) (sym h.2) (All-nil (IsTruthful config peer new.part))
+pub packet_truthful : (roster : Roster) (peer : ℕ) (before : List Delivery) (bytes : List ℕ) (old : State)
+    (report : Report) (dues : List Due) (new : State) → IsRoster roster
+    → IsBacked roster peer (packets_of before) before old → AreTellable old.part
+    → TakesPacket roster peer bytes old report dues new → AreTruthful roster peer new.part dues
+packet_truthful roster peer before bytes old report dues new checked b t (inl h) =
+    (message_followed roster peer before bytes old report dues new checked b t h).truthful
+packet_truthful roster peer before bytes old report dues new checked b t (inr h) =
+    subst (λ (ds : List Due). AreTruthful roster peer new.part ds) (sym h.2) (All-nil (IsTruthful roster peer new.part))
 
 -- It can be written.
-pub packet_writable : (config : Config) (peer : ℕ) (before : List Delivery) (bytes : List ℕ) (old : State)
-    (report : Report) (dues : List Due) (new : State) → IsRoster config.peers
-    → IsBacked config peer (packets_of before) before old → AreTellable old.part
-    → TakesPacket config peer bytes old report dues new → IsSized config → HasSmallChanges old.part
+pub packet_writable : (roster : Roster) (peer : ℕ) (before : List Delivery) (bytes : List ℕ) (old : State)
+    (report : Report) (dues : List Due) (new : State) → IsRoster roster
+    → IsBacked roster peer (packets_of before) before old → AreTellable old.part
+    → TakesPacket roster peer bytes old report dues new → IsSized roster → HasSmallChanges old.part
     → All CanBeWritten dues
-packet_writable config peer before bytes old report dues new checked b t (inl h) sized small =
-    (message_followed config peer before bytes old report dues new checked b t h).writable sized small
-packet_writable config peer before bytes old report dues new checked b t (inr h) sized small = none_written dues h.2
+packet_writable roster peer before bytes old report dues new checked b t (inl h) sized small =
+    (message_followed roster peer before bytes old report dues new checked b t h).writable sized small
+packet_writable roster peer before bytes old report dues new checked b t (inr h) sized small = none_written dues h.2
 
 -- A packet moves places and acknowledgements on, and writes nothing: so what its dues rest on is so after it.
-pub packet_gains : (config : Config) (peer : ℕ) (before : List Delivery) (bytes : List ℕ) (old : State)
-    (report : Report) (dues : List Due) (new : State) → IsRoster config.peers
-    → IsBacked config peer (packets_of before) before old → AreTellable old.part
-    → TakesPacket config peer bytes old report dues new → Gains old.part new.part
-packet_gains config peer before bytes old report dues new checked b t (inl h) =
-    (message_followed config peer before bytes old report dues new checked b t h).gains
-packet_gains config peer before bytes old report dues new checked b t (inr h) =
+pub packet_gains : (roster : Roster) (peer : ℕ) (before : List Delivery) (bytes : List ℕ) (old : State)
+    (report : Report) (dues : List Due) (new : State) → IsRoster roster
+    → IsBacked roster peer (packets_of before) before old → AreTellable old.part
+    → TakesPacket roster peer bytes old report dues new → Gains old.part new.part
+packet_gains roster peer before bytes old report dues new checked b t (inl h) =
+    (message_followed roster peer before bytes old report dues new checked b t h).gains
+packet_gains roster peer before bytes old report dues new checked b t (inr h) =
     subst (λ (p : Part). Gains old.part p) (sym h.0.after) (gains_same old.part)
 
 -- ---- a tick
 
 -- What is due at a tick is true after it too.
-pub tick_truthful : (config : Config) (contacts : ℕ → Endpoint → Contact) (peer : ℕ) (old : Part) (now : ℕ)
-    (reply : Reply) (new : Part) → IsRoster config.peers → IsPartOf config peer old
-    → TickStep old now reply new → AreTruthful config peer new (heartbeats_due config contacts peer old)
-tick_truthful config contacts peer old now reply new checked of step =
-    truthful_on config peer old new (TickStep-grows old now reply new step)
+pub tick_truthful : (roster : Roster) (contacts : ℕ → Endpoint → Contact) (peer : ℕ) (old : Part) (now : ℕ)
+    (reply : Reply) (new : Part) → IsRoster roster → IsPartOf roster peer old
+    → TickStep old now reply new → AreTruthful roster peer new (heartbeats_due roster contacts peer old)
+tick_truthful roster contacts peer old now reply new checked of step =
+    truthful_on roster peer old new (TickStep-grows old now reply new step)
     (λ w r.
     subst (λ (rows : List ReaderProxy). NoLess (acknowledged_of (own_writer old w).readers r) (acknowledged_of rows r))
     (sym (TickStep-acknowledged old now reply new step w))
     (no_less_same (acknowledged_of (own_writer old w).readers r)))
-    (heartbeats_due config contacts peer old) (heartbeats_truthful config contacts peer old checked of)
+    (heartbeats_due roster contacts peer old) (heartbeats_truthful roster contacts peer old checked of)
 
 -- ---- what is sent
 
@@ -208,15 +207,15 @@ sent_is_due (d ∷ ds) packets unsent (inr h) packet among =
     later_due d ds packet (sent_is_due ds packets h.0 h.2 packet among)
 
 -- What is sent of true messages claims the truth.
-pub sent_truthful : (config : Config) (peer : ℕ) (part : Part) (dues : List Due) (packets : List Packet) (unsent : ℕ)
-    → AreTruthful config peer part dues → All (λ (due : Due). IsWritable due.message) dues
+pub sent_truthful : (roster : Roster) (peer : ℕ) (part : Part) (dues : List Due) (packets : List Packet) (unsent : ℕ)
+    → AreTruthful roster peer part dues → All (λ (due : Due). IsWritable due.message) dues
     → AreSent dues packets unsent → (packet : Packet) (claim : Claim) → Contains packets packet
-    → Claims config packet.bytes claim → IsTrueAt peer part claim
-sent_truthful config peer part dues packets unsent truthful writable sent packet claim among says =
+    → Claims roster packet.bytes claim → IsTrueAt peer part claim
+sent_truthful roster peer part dues packets unsent truthful writable sent packet claim among says =
     let d : IsOfDue dues packet = sent_is_due dues packets unsent sent packet among in
-    All-contains (IsTruthful config peer part) dues d.due truthful d.among claim
+    All-contains (IsTruthful roster peer part) dues d.due truthful d.among claim
     (All-contains (λ (due : Due). IsWritable due.message) dues d.due writable d.among)
-    (subst (λ (x : Packet). Claims config x.bytes claim) d.is says)
+    (subst (λ (x : Packet). Claims roster x.bytes claim) d.is says)
 
 -- messages can be written where the sets of their ACKNACKs have their places
 pub all_writable : (dues : List Due) → All CanBeWritten dues

@@ -2,7 +2,7 @@
 -- tick leaves the changes.
 use Rattle.std.proofs.Common.{◌≡◌, ℕ, Bool, List, length, refl, subst, ap, sym, ◌∙◌, ⊎_elim}
 use Rattle.dds_base.specs.declared.change.Change.{Change}
-use Rattle.dds_base.specs.declared.config.Config.{Config}
+use Rattle.dds_protocol.specs.Roster.{Roster}
 use Rattle.dds_base.specs.Kept.{change_at}
 use Rattle.dds_machine.specs.declared.call.Call.{Call}
 use Rattle.dds_machine.specs.declared.reply.Reply.{Reply}
@@ -31,10 +31,10 @@ effect_count old (looks_at_matches w) =
     length-with_numbered old.writers w (writer_looked_at (numbered old.writers w no_writer))
 
 -- a call leaves the writers
-pub call_part : (config : Config) (peer : ℕ) (tests : Tests) (old : Part) (call : Call) (reply : Reply) (new : Part)
-    → CallStep tests old call reply new → IsPartOf config peer old → IsPartOf config peer new
-call_part config peer tests old call reply new h of =
-    is_part_kept config peer old new
+pub call_part : (roster : Roster) (peer : ℕ) (tests : Tests) (old : Part) (call : Call) (reply : Reply) (new : Part)
+    → CallStep tests old call reply new → IsPartOf roster peer old → IsPartOf roster peer new
+call_part roster peer tests old call reply new h of =
+    is_part_kept roster peer old new
     (ap (λ (r : Rtps). length r.writers) h.rtps ∙ effect_count old.rtps (effect_of old call reply)) of
 
 -- ---- a tick
@@ -47,10 +47,10 @@ tick_count old now (Refused code) new h = ap (λ (p : Part). length p.rtps.write
 tick_count old now reply new h = absurd h.1
 
 -- so does a tick
-pub tick_part : (config : Config) (peer : ℕ) (old : Part) (now : ℕ) (reply : Reply) (new : Part)
-    → TickStep old now reply new → IsPartOf config peer old → IsPartOf config peer new
-tick_part config peer old now reply new h of =
-    is_part_kept config peer old new (tick_count old now reply new h) of
+pub tick_part : (roster : Roster) (peer : ℕ) (old : Part) (now : ℕ) (reply : Reply) (new : Part)
+    → TickStep old now reply new → IsPartOf roster peer old → IsPartOf roster peer new
+tick_part roster peer old now reply new h of =
+    is_part_kept roster peer old new (tick_count old now reply new h) of
 
 ticked_changes : (now : ℕ) (asked : ℕ → Bool) (ws : List Writer) (w : ℕ)
     → writer_changes (numbered (writers_ticked now asked 1 ws) w no_writer) ≡ writer_changes (numbered ws w no_writer)

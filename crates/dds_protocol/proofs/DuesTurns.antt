@@ -31,13 +31,13 @@ pub record Rests (c : Coming) (s : State) : Type 0 where
 pub record Keeps (c : Coming) (old : State) (dues : List Due) (new : State) : Type 0 where
   pub rests : Rests c new
   pub gains : Gains old.part new.part
-  pub truthful : AreTruthful c.config c.peer new.part dues
-  pub writable : IsSized c.config → HasSmallChanges old.part → All CanBeWritten dues
+  pub truthful : AreTruthful c.roster c.peer new.part dues
+  pub writable : IsSized c.roster → HasSmallChanges old.part → All CanBeWritten dues
 
 -- legal moves, after which what is due is true
 keeps_moves : (c : Coming) (old : State) (made : List Move) (dues : List Due) (new : State) → Rests c old
-    → AreMoves (grounds c) old.part made new.part → Backs c new → AreTruthful c.config c.peer new.part dues
-    → (IsSized c.config → HasSmallChanges old.part → All CanBeWritten dues) → Keeps c old dues new
+    → AreMoves (grounds c) old.part made new.part → Backs c new → AreTruthful c.roster c.peer new.part dues
+    → (IsSized c.roster → HasSmallChanges old.part → All CanBeWritten dues) → Keeps c old dues new
 keeps_moves c old made dues new r moves backed truthful writable =
     let gains : Gains old.part new.part = AreMoves-gains (grounds c) old.part made new.part moves in
     record {
@@ -65,9 +65,9 @@ keeps_on : (c : Coming) (old mid new : State) (first rest all : List Due) → al
 keeps_on c old mid new first rest all is f g = record {
   rests = g.rests;
   gains = gains_on old.part mid.part new.part f.gains g.gains;
-  truthful = subst (λ (ds : List Due). AreTruthful c.config c.peer new.part ds) (sym is)
-      (All-append (IsTruthful c.config c.peer new.part) first rest
-      (truthful_gained c.config c.peer mid.part new.part g.gains first f.truthful) g.truthful);
+  truthful = subst (λ (ds : List Due). AreTruthful c.roster c.peer new.part ds) (sym is)
+      (All-append (IsTruthful c.roster c.peer new.part) first rest
+      (truthful_gained c.roster c.peer mid.part new.part g.gains first f.truthful) g.truthful);
   writable = λ sized small. subst (λ (ds : List Due). All CanBeWritten ds) (sym is)
       (All-append CanBeWritten first rest (f.writable sized small)
       (g.writable sized (small_gained old.part mid.part f.gains small)));
@@ -87,7 +87,7 @@ in_turn c step each (x ∷ xs) old moves dues new r h =
 -- a reader
 reader_kept : (c : Coming) (s : Submessage) → c.submessage ≡ s → IsTelling s
     → (reader : ℕ) (old : State) (made : List Move) (dues : List Due) (new : State) → Rests c old
-    → ReaderTakes c.config c.own c.peer c.at s reader old made dues new → Keeps c old dues new
+    → ReaderTakes c.roster c.own c.peer c.at s reader old made dues new → Keeps c old dues new
 reader_kept c s is telling reader old made dues new r h =
     let one : IsTakenAt c s reader old made new = reader_taken c s is telling reader old made dues new r.backed r.met h in
     keeps_moves c old made dues new r one.moves one.backed (reader_truthful c s reader old made dues new h)
@@ -95,16 +95,16 @@ reader_kept c s is telling reader old made dues new r h =
 
 readers_kept : (c : Coming) (s : Submessage) → c.submessage ≡ s → IsTelling s
     → (old : State) (made : List Move) (dues : List Due) (new : State) → Rests c old
-    → InTurn (ReaderTakes c.config c.own c.peer c.at s)
+    → InTurn (ReaderTakes c.roster c.own c.peer c.at s)
     (numbers_from 1 (length old.part.rtps.readers)) old made dues new → Keeps c old dues new
 readers_kept c s is telling old made dues new r h =
-    in_turn c (ReaderTakes c.config c.own c.peer c.at s) (reader_kept c s is telling)
+    in_turn c (ReaderTakes c.roster c.own c.peer c.at s) (reader_kept c s is telling)
     (numbers_from 1 (length old.part.rtps.readers)) old made dues new r h
 
 -- a writer, as to one of its matched readers
 writer_kept : (c : Coming) (a : AckNackBody) → c.submessage ≡ AckNack a → 1 ≤ a.reader_sn_state.base
     → (writer : ℕ) (p : ReaderProxy) (old : State) (made : List Move) (dues : List Due) (new : State) → Rests c old
-    → WriterTakes c.config c.own c.peer c.at a writer p.reader old made dues new → Keeps c old dues new
+    → WriterTakes c.roster c.own c.peer c.at a writer p.reader old made dues new → Keeps c old dues new
 writer_kept c a is low writer p old made dues new r h =
     let one : IsTaken c old made new = writer_taken c a is writer p.reader old made dues new r.backed h in
     keeps_moves c old made dues new r one.moves one.backed
@@ -113,11 +113,11 @@ writer_kept c a is low writer p old made dues new r h =
 
 writers_kept : (c : Coming) (a : AckNackBody) → c.submessage ≡ AckNack a → 1 ≤ a.reader_sn_state.base
     → (old : State) (made : List Move) (dues : List Due) (new : State) → Rests c old
-    → Takes c.config c.own c.peer c.at (AckNack a) old made dues new → Keeps c old dues new
+    → Takes c.roster c.own c.peer c.at (AckNack a) old made dues new → Keeps c old dues new
 writers_kept c a is low old made dues new r h =
-    in_turn c (λ (writer : ℕ). InTurn (λ (p : ReaderProxy). WriterTakes c.config c.own c.peer c.at a writer p.reader)
+    in_turn c (λ (writer : ℕ). InTurn (λ (p : ReaderProxy). WriterTakes c.roster c.own c.peer c.at a writer p.reader)
     (own_writer old.part writer).readers)
-    (λ writer. in_turn c (λ (p : ReaderProxy). WriterTakes c.config c.own c.peer c.at a writer p.reader)
+    (λ writer. in_turn c (λ (p : ReaderProxy). WriterTakes c.roster c.own c.peer c.at a writer p.reader)
     (writer_kept c a is low writer) (own_writer old.part writer).readers)
     (numbers_from 1 (length old.part.rtps.writers)) old made dues new r h
 
@@ -129,7 +129,7 @@ HasBase other = Unit {0}
 -- What is due once a submessage was taken up is true.
 pub takes_kept : (c : Coming) (s : Submessage) → c.submessage ≡ s → HasBase s
     → (old : State) (made : List Move) (dues : List Due) (new : State) → Rests c old
-    → Takes c.config c.own c.peer c.at s old made dues new → Keeps c old dues new
+    → Takes c.roster c.own c.peer c.at s old made dues new → Keeps c old dues new
 takes_kept c (AckNack a) is low old made dues new r h = writers_kept c a is low old made dues new r h
 takes_kept c (Data d) is low old made dues new r h = readers_kept c (Data d) is tt old made dues new r h
 takes_kept c (Gap g) is low old made dues new r h = readers_kept c (Gap g) is tt old made dues new r h

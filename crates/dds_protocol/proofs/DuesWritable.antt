@@ -11,7 +11,7 @@ use Rattle.std.proofs.lemmas.List.{length-map}
 use Rattle.std.proofs.lemmas.List.Elements.{All-head, All-tail}
 use Rattle.std.proofs.lemmas.List.Sums.{length-filter}
 use Rattle.dds_base.specs.declared.change.Change.{Change}
-use Rattle.dds_base.specs.declared.config.Config.{Config}
+use Rattle.dds_protocol.specs.Roster.{Roster}
 use Rattle.dds_base.specs.declared.endpoint.Endpoint.{Endpoint}
 use Rattle.dds_base.specs.declared.guid.EntityId.{EntityId}
 use Rattle.dds_base.specs.declared.guid.GuidPrefix.{GuidPrefix}
@@ -41,7 +41,6 @@ use Rattle.dds_protocol.specs.Contact.{Contact}
 use Rattle.dds_protocol.specs.DueMessages.{acknack_message, answer_message, data_of, submessages_of, reader_entity, writer_entity, owed_to, begins_at, ends_at, is_one_for_all, heartbeat_from, heartbeats_due_to}
 use Rattle.dds_protocol.specs.Claims.{every_reader}
 use Rattle.dds_protocol.specs.Protocol.{answers_per}
-use Rattle.dds_protocol.specs.Receipt.{prefix_of}
 use Rattle.dds_protocol.proofs.BeatsTo.{beat_body}
 use Rattle.dds_protocol.proofs.Growth.{change_at-within}
 
@@ -167,19 +166,19 @@ named_written beat each (x ∷ xs) =
     let light = rest.light in record { each = (each x, rest.each); light = omega (arith, light) }
 
 -- The message with those to a peer can be written, where that one has few of the readers.
-pub heartbeats_writable : (config : Config) (final liveliness : Bool) (peer number to : ℕ)
-    (contacts : Endpoint → Contact) (w : Writer) (readers : List Endpoint) → length (prefix_of config peer).0 ≡ 12
-    → length (prefix_of config to).0 ≡ 12
-    → IsEntityId (writer_entity config peer number)
-    → ((r : Endpoint) → IsEntityId (reader_entity config r.peer r.number))
+pub heartbeats_writable : (roster : Roster) (final liveliness : Bool) (peer number to : ℕ)
+    (contacts : Endpoint → Contact) (w : Writer) (readers : List Endpoint) → length (roster.prefix peer).0 ≡ 12
+    → length (roster.prefix to).0 ≡ 12
+    → IsEntityId (writer_entity roster peer number)
+    → ((r : Endpoint) → IsEntityId (reader_entity roster r.peer r.number))
     → count_by (λ (r : Endpoint). r.peer == to) readers ≤ max_ends → length (writer_changes w) < 2 ^ 62
     → heartbeats_used w < 2 ^ 31 - 1
-    → IsWritable (heartbeats_due_to config final liveliness peer number contacts w readers to).message
-heartbeats_writable config final liveliness peer number to contacts w readers own_octets to_octets of_writer of_reader
+    → IsWritable (heartbeats_due_to roster final liveliness peer number contacts w readers to).message
+heartbeats_writable roster final liveliness peer number to contacts w readers own_octets to_octets of_writer of_reader
     few small left = by (is_one_for_all contacts w to)
   where
     entity : EntityId
-    entity = writer_entity config peer number
+    entity = writer_entity roster peer number
 
     here : List Endpoint
     here = filter (λ (r : Endpoint). r.peer == to) readers
@@ -189,11 +188,11 @@ heartbeats_writable config final liveliness peer number to contacts w readers ow
         if b
         then heartbeat_from final liveliness every_reader entity (first_kept (history_of w)) (length (writer_changes w))
         w ∷ []
-        else map (λ (r : Endpoint). heartbeat_from final liveliness (reader_entity config r.peer r.number) entity
+        else map (λ (r : Endpoint). heartbeat_from final liveliness (reader_entity roster r.peer r.number) entity
         (begins_at w r) (ends_at contacts w r) w) here
 
     message : Bool → Message
-    message b = record { prefix = prefix_of config peer; submessages = InfoDst (prefix_of config to) ∷ beats b }
+    message b = record { prefix = roster.prefix peer; submessages = InfoDst (roster.prefix to) ∷ beats b }
 
     by : (b : Bool) → IsWritable (message b)
     by true =
@@ -207,13 +206,13 @@ heartbeats_writable config final liveliness peer number to contacts w readers ow
         ) (omega arith)
     by false =
         let written : AreWritten (beats false) =
-        named_written (λ (r : Endpoint). beat_body final liveliness (reader_entity config r.peer r.number) entity
+        named_written (λ (r : Endpoint). beat_body final liveliness (reader_entity roster r.peer r.number) entity
         (begins_at w r) (ends_at contacts w r) w)
-        (λ r. beat_spellable final liveliness (reader_entity config r.peer r.number) entity (begins_at w r)
+        (λ r. beat_spellable final liveliness (reader_entity roster r.peer r.number) entity (begins_at w r)
         (ends_at contacts w r) w (of_reader r) of_writer (named_run contacts w r) small left) here in
         let light = written.light in
         let same = length-map here (λ (r : Endpoint). heartbeat_from final liveliness
-        (reader_entity config r.peer r.number) entity (begins_at w r) (ends_at contacts w r) w) in
+        (reader_entity roster r.peer r.number) entity (begins_at w r) (ends_at contacts w r) w) in
         let count = length-filter (λ (r : Endpoint). r.peer == to) readers in
         short_writable (message false) own_octets (to_octets, written.each) (omega (arith, light, same, count, few))
 

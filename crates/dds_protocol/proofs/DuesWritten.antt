@@ -3,7 +3,7 @@ use Rattle.std.proofs.Common.{◌≡◌, ◌⊎◌, ℕ, ◌^◌, ◌<◌, ◌�
 use Rattle.std.specs.List.{All}
 use Rattle.std.proofs.lemmas.List.Elements.{All-cons, All-map, All-nil, All-weaker}
 use Rattle.dds_base.specs.declared.change.Change.{Change}
-use Rattle.dds_base.specs.declared.config.Config.{Config}
+use Rattle.dds_protocol.specs.Roster.{Roster}
 use Rattle.dds_base.specs.declared.guid.EntityId.{EntityId}
 use Rattle.dds_base.specs.declared.guid.GuidPrefix.{GuidPrefix}
 use Rattle.dds_base.specs.Kept.{change_at}
@@ -26,7 +26,6 @@ use Rattle.dds_machine.specs.declared.reply.Move.{Move}
 use Rattle.dds_machine.specs.Part.{Writer, own_writer, owed_from, writer_changes}
 use Rattle.dds_protocol.specs.Claims.{IsReader, IsWriter, IsToReader, IsToWriter}
 use Rattle.dds_protocol.specs.DueMessages.{Due, answer_message, acknack_message, acknacks_due}
-use Rattle.dds_base.specs.Matched.{is_reliable_reader}
 use Rattle.dds_protocol.proofs.Ways.{met_heartbeat}
 use Rattle.dds_protocol.specs.Protocol.{State, heard_as, TakesHeartbeat, TakesAckNack, ReaderTakes, WriterTakes, AreGrouped, answers_per, answered_from, has_for, HearsAlone, Idles, stands_to}
 use Rattle.dds_protocol.specs.Backed.{reader_at}
@@ -41,36 +40,34 @@ use Rattle.dds_protocol.proofs.RuledReaders.{Coming, Backs}
 pub none_written : (dues : List Due) → dues ≡ [] → All CanBeWritten dues
 none_written dues none = subst (λ (ds : List Due). All CanBeWritten ds) (sym none) (All-nil CanBeWritten)
 
--- ---- names of a configuration
+-- ---- names of a roster
 
 -- a reader's peer has a prefix of 12 octets, and the reader an entity id of 4
-pub reader_octets : (config : Config) → IsSized config → (prefix : GuidPrefix) (entity : EntityId) (r : Endpoint)
-    → IsReader config prefix entity r → (length prefix.0 ≡ 12) × IsEntityId entity
-reader_octets config sized prefix entity r is = (
-  subst (λ (p : GuidPrefix). length p.0 ≡ 12) is.same_prefix (sized.prefix r.peer is.peer is.at_peer),
-  subst (λ (e : EntityId). IsEntityId e) is.same_entity
-      (sized.reader r.peer r.number is.peer is.end is.at_peer is.at_reader),
+pub reader_octets : (roster : Roster) → IsSized roster → (prefix : GuidPrefix) (entity : EntityId) (r : Endpoint)
+    → IsReader roster prefix entity r → (length prefix.0 ≡ 12) × IsEntityId entity
+reader_octets roster sized prefix entity r is = (
+  subst (λ (p : GuidPrefix). length p.0 ≡ 12) is.same_prefix (sized.prefix r.peer),
+  sized.reader r entity is.at_reader,
 )
 
 -- so have a writer's peer and the writer
-pub writer_octets : (config : Config) → IsSized config → (prefix : GuidPrefix) (entity : EntityId) (w : Endpoint)
-    → IsWriter config prefix entity w → (length prefix.0 ≡ 12) × IsEntityId entity
-writer_octets config sized prefix entity w is = (
-  subst (λ (p : GuidPrefix). length p.0 ≡ 12) is.same_prefix (sized.prefix w.peer is.peer is.at_peer),
-  subst (λ (e : EntityId). IsEntityId e) is.same_entity
-      (sized.writer w.peer w.number is.peer is.end is.at_peer is.at_writer),
+pub writer_octets : (roster : Roster) → IsSized roster → (prefix : GuidPrefix) (entity : EntityId) (w : Endpoint)
+    → IsWriter roster prefix entity w → (length prefix.0 ≡ 12) × IsEntityId entity
+writer_octets roster sized prefix entity w is = (
+  subst (λ (p : GuidPrefix). length p.0 ≡ 12) is.same_prefix (sized.prefix w.peer),
+  sized.writer w entity is.at_writer,
 )
 
 -- ---- an ACKNACK
 
 acknack_written : (c : Coming) (h : HeartbeatBody) (w : Endpoint) (r : ℕ)
-    (is : IsToReader c.config c.own c.at h.reader_id h.writer_id w (reader_at c.peer r)) → IsSized c.config
+    (is : IsToReader c.roster c.own c.at h.reader_id h.writer_id w (reader_at c.peer r)) → IsSized c.roster
     → (t : Tracked) → 1 ≤ t.place → (answer : Option AckNackDue) → AnswersHeartbeat t h.last_sn h.final_flag answer
     → All CanBeWritten (acknacks_due c.own c.at.source_guid_prefix w.peer is.entity h.writer_id answer)
 acknack_written c h w r is sized t low None a = All-nil CanBeWritten
 acknack_written c h w r is sized t low (Some due) a =
-    let of_reader = reader_octets c.config sized c.own is.entity (reader_at c.peer r) is.to in
-    let of_writer = writer_octets c.config sized c.at.source_guid_prefix h.writer_id w is.from in
+    let of_reader = reader_octets c.roster sized c.own is.entity (reader_at c.peer r) is.to in
+    let of_writer = writer_octets c.roster sized c.at.source_guid_prefix h.writer_id w is.from in
     let ends : Ends c.own c.at.source_guid_prefix is.entity h.writer_id =
     record {
       own_octets = of_reader.0;
@@ -85,7 +82,7 @@ acknack_written c h w r is sized t low (Some due) a =
     (All-nil CanBeWritten)
 
 heartbeat_written : (c : Coming) (h : HeartbeatBody) (w : Endpoint) (r : ℕ)
-    (is : IsToReader c.config c.own c.at h.reader_id h.writer_id w (reader_at c.peer r)) → IsSized c.config
+    (is : IsToReader c.roster c.own c.at h.reader_id h.writer_id w (reader_at c.peer r)) → IsSized c.roster
     → (old : State) (made : List Move) (dues : List Due) (new : State) → Backs c new
     → TakesHeartbeat c.own c.at old w r is.entity h made dues new → All CanBeWritten dues
 heartbeat_written c h w r is sized old made dues new b k =
@@ -101,16 +98,16 @@ heartbeat_written c h w r is sized old made dues new b k =
 
 -- what is due once a reader took a submessage up can be written
 pub reader_written : (c : Coming) (s : Submessage) (r : ℕ) (old : State) (made : List Move) (dues : List Due)
-    (new : State) → IsSized c.config → Backs c new → ReaderTakes c.config c.own c.peer c.at s r old made dues new
+    (new : State) → IsSized c.roster → Backs c new → ReaderTakes c.roster c.own c.peer c.at s r old made dues new
     → All CanBeWritten dues
-reader_written c (Data d) r old made dues new sized b h = none_written dues (⊎_elim (λ t. t.2.1) (λ n. n.1.1) h)
-reader_written c (Gap g) r old made dues new sized b h = none_written dues (⊎_elim (λ t. t.2.1) (λ n. n.1.1) h)
+reader_written c (Data d) r old made dues new sized b h = none_written dues (⊎_elim (λ t. t.3.1) (λ n. n.1.1) h)
+reader_written c (Gap g) r old made dues new sized b h = none_written dues (⊎_elim (λ t. t.3.1) (λ n. n.1.1) h)
 reader_written c (Heartbeat x) r old made dues new sized b h =
-    ⊎_elim (λ t. by t.0 t.1 (is_reliable_reader t.1.to.end)
-    (met_heartbeat (stands_to old t.0 r) (is_reliable_reader t.1.to.end) c.own c.at old t.0 r t.1.entity x made dues new
-    t.2)) (λ n. none_written dues n.1.1) h
+    ⊎_elim (λ t. by t.0 t.1 (c.roster.is_reliable (reader_at c.peer r))
+    (met_heartbeat (stands_to old t.0 r) (c.roster.is_reliable (reader_at c.peer r)) c.own c.at old t.0 r t.1.entity x made dues new
+    t.3)) (λ n. none_written dues n.1.1) h
   where
-    by : (w : Endpoint) (is : IsToReader c.config c.own c.at x.reader_id x.writer_id w (reader_at c.peer r))
+    by : (w : Endpoint) (is : IsToReader c.roster c.own c.at x.reader_id x.writer_id w (reader_at c.peer r))
         (reliable : Bool)
         → TakesHeartbeat c.own c.at old w r is.entity (heard_as reliable x) made dues new
         ⊎ (HearsAlone old w r x made new × (dues ≡ [])) ⊎ Idles old made dues new → All CanBeWritten dues
@@ -168,14 +165,14 @@ datable w small tellable n c at =
     }
 
 acknack_answers_written : (c : Coming) (a : AckNackBody) (w : ℕ) (r : Endpoint)
-    (is : IsToWriter c.config c.own c.at a.reader_id a.writer_id (record { peer = c.peer; number = w }) r)
+    (is : IsToWriter c.roster c.own c.at a.reader_id a.writer_id (record { peer = c.peer; number = w }) r)
     → 1 ≤ a.reader_sn_state.base
-    → (old : State) (made : List Move) (dues : List Due) (new : State) → IsSized c.config → AreTellable old.part
+    → (old : State) (made : List Move) (dues : List Due) (new : State) → IsSized c.roster → AreTellable old.part
     → HasSmallChanges old.part → TakesAckNack c.own c.at old w r is.entity a made dues new → All CanBeWritten dues
 acknack_answers_written c a w r is low old made dues new sized tellable small k =
     let from : ℕ = answered_from (owed_from k.there r) k.acknowledged a.reader_sn_state.base in
-    let of_reader = reader_octets c.config sized c.at.source_guid_prefix is.entity r is.from in
-    let of_writer = writer_octets c.config sized c.own a.writer_id (record { peer = c.peer; number = w }) is.to in
+    let of_reader = reader_octets c.roster sized c.at.source_guid_prefix is.entity r is.from in
+    let of_writer = writer_octets c.roster sized c.own a.writer_id (record { peer = c.peer; number = w }) is.to in
     let ends : Ends c.own c.at.source_guid_prefix is.entity a.writer_id =
     record {
       own_octets = of_writer.0;
@@ -212,9 +209,9 @@ acknack_answers_written c a w r is low old made dues new sized tellable small k 
 
 -- what is due once a writer took an ACKNACK up can be written
 pub writer_written : (c : Coming) (a : AckNackBody) → 1 ≤ a.reader_sn_state.base
-    → (w : ℕ) (r : Endpoint) (old : State) (made : List Move) (dues : List Due) (new : State) → IsSized c.config
+    → (w : ℕ) (r : Endpoint) (old : State) (made : List Move) (dues : List Due) (new : State) → IsSized c.roster
     → AreTellable old.part → HasSmallChanges old.part
-    → WriterTakes c.config c.own c.peer c.at a w r old made dues new → All CanBeWritten dues
+    → WriterTakes c.roster c.own c.peer c.at a w r old made dues new → All CanBeWritten dues
 writer_written c a low w r old made dues new sized tellable small (inl h) =
     acknack_answers_written c a w r h.0 low old made dues new sized tellable small h.2
 writer_written c a low w r old made dues new sized tellable small (inr h) = none_written dues h.1.1

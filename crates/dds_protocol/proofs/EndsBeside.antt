@@ -2,7 +2,7 @@
 use Rattle.std.proofs.Common.{◌≡◌, ℕ, zero, suc, get_or, List, [], length, refl, ap, sym, ◌∙◌, subst, arith, ⊎_elim}
 use Rattle.std.proofs.lemmas.List.{set-get_or}
 use Rattle.dds_base.specs.declared.change.Change.{Change}
-use Rattle.dds_base.specs.declared.config.Config.{Config}
+use Rattle.dds_protocol.specs.Roster.{Roster}
 use Rattle.dds_notices.proofs.ListenerLaws.{NobodyTakes}
 use Rattle.dds_base.specs.declared.endpoint.Endpoint.{Endpoint}
 use Rattle.dds_machine.specs.declared.event.WorldEvent.{WorldEvent}
@@ -75,15 +75,15 @@ machine_ends before e world =
     ∙ ap (λ (q : Part). with_numbered (machine_of world).parts (peer_of e)
     (at_end (part_at (machine_of before) (peer_of e)) q)) (sym (parts_at world (peer_of e)))))
 
-pub ended_sound : (config : Config) (before : WorldState) (e : WorldEvent) (world : WorldState) → Sound config world
-    → Sound config (world_ended before e world)
-ended_sound config before e world sound =
-    sound_beside config world (world_ended before e world) (world_beside before e world) sound
+pub ended_sound : (roster : Roster) (before : WorldState) (e : WorldEvent) (world : WorldState) → Sound roster world
+    → Sound roster (world_ended before e world)
+ended_sound roster before e world sound =
+    sound_beside roster world (world_ended before e world) (world_beside before e world) sound
 
-pub ended_used : (config : Config) (before : WorldState) (e : WorldEvent) (world : WorldState)
-    → HasUsedCounts config world → HasUsedCounts config (world_ended before e world)
-ended_used config before e world used =
-    used_beside config world (world_ended before e world) (world_beside before e world) used
+pub ended_used : (roster : Roster) (before : WorldState) (e : WorldEvent) (world : WorldState)
+    → HasUsedCounts roster world → HasUsedCounts roster (world_ended before e world)
+ended_used roster before e world used =
+    used_beside roster world (world_ended before e world) (world_beside before e world) used
 
 pub world_bounded : (before : WorldState) (e : WorldEvent) (world : WorldState) → IsBounded (machine_of world)
     → IsBounded (machine_of (world_ended before e world))

@@ -4,6 +4,7 @@ use Rattle.std.proofs.Common.{◌≡◌, ℕ, ◌+◌, zero, suc, List, [], ◌�
 use Rattle.std.specs.Prelude.{Option}
 use Rattle.std.proofs.lemmas.List.{length-map}
 use Rattle.rtps_wire.specs.declared.submessage.Submessage.{Submessage}
+use Rattle.dds_protocol.specs.Roster.{Roster}
 use Rattle.dds_base.specs.declared.config.Config.{Config}
 use Rattle.dds_base.specs.declared.config.PeerConfig.{PeerConfig}
 use Rattle.dds_base.specs.declared.guid.GuidPrefix.{GuidPrefix}
@@ -71,44 +72,44 @@ moves_keep : (g : Grounds) (old : Part) (ms : List Move) (new : Part) → AreMov
 moves_keep g old [] new h = ap (λ (p : Part). handed p.dds) h
 moves_keep g old (m ∷ ms) new h = moves_keep g h.0 ms new h.2 ∙ move_keeps g old m h.0 h.1
 
-taken_keeps : (config : Config) (grounds : ℕ → Grounds) (peer : ℕ) (own : GuidPrefix) (index : ℕ) (at : Receiver)
+taken_keeps : (roster : Roster) (grounds : ℕ → Grounds) (peer : ℕ) (own : GuidPrefix) (index : ℕ) (at : Receiver)
     (submessages : List Submessage) (old : Part) (moves : List Move) (refused : Option ℕ) (new : Part)
-    → TakesUp config grounds peer own index at submessages old moves refused new → SameHanded old.dds new.dds
-taken_keeps config grounds peer own index at [] old moves refused new h = ap (λ (p : Part). handed p.dds) h.2
-taken_keeps config grounds peer own index at (s ∷ rest) old moves refused new (inl h) =
+    → TakesUp roster grounds peer own index at submessages old moves refused new → SameHanded old.dds new.dds
+taken_keeps roster grounds peer own index at [] old moves refused new h = ap (λ (p : Part). handed p.dds) h.2
+taken_keeps roster grounds peer own index at (s ∷ rest) old moves refused new (inl h) =
     ap (λ (p : Part). handed p.dds) h.2
-taken_keeps config grounds peer own index at (s ∷ rest) old moves refused new (inr h) =
-    taken_keeps config grounds peer own (index + 1) (after_submessage own at s) rest h.2 h.1 refused new h.6
+taken_keeps roster grounds peer own index at (s ∷ rest) old moves refused new (inr h) =
+    taken_keeps roster grounds peer own (index + 1) (after_submessage own at s) rest h.2 h.1 refused new h.6
     ∙ moves_keep (grounds index) old h.0 h.2 h.4
 
-event_keeps : (config : Config) (tests : Tests) (old : Peer) (ev : Event) (reply : Reply) (new : Peer)
-    → EventStep config tests old ev reply new → SameHanded old.part.dds new.part.dds
-event_keeps config tests old (event.Call call) reply new h =
+event_keeps : (roster : Roster) (tests : Tests) (old : Peer) (ev : Event) (reply : Reply) (new : Peer)
+    → EventStep roster tests old ev reply new → SameHanded old.part.dds new.part.dds
+event_keeps roster tests old (event.Call call) reply new h =
     call_keeps old.part new.part.dds (changes_of tests old.part call reply new.part.dds h.0.answers)
-event_keeps config tests old (event.Tick now) Done new h = ap (λ (p : Part). handed p.dds) h.0.1
-event_keeps config tests old (event.Tick now) (Refused code) new h = ap (λ (p : Part). handed p.dds) h.0.1
-event_keeps config tests old (event.Tick now) reply new h = absurd h.0
-event_keeps config tests old (event.Deliver packet) (Reported report) new (inl t, delivered) =
-    taken_keeps config _ old.number _ 0 _ t.message.submessages old.part report.moves report.refused new.part t.taken
-event_keeps config tests old (event.Deliver packet) (Reported report) new (inr t, delivered) =
+event_keeps roster tests old (event.Tick now) Done new h = ap (λ (p : Part). handed p.dds) h.0.1
+event_keeps roster tests old (event.Tick now) (Refused code) new h = ap (λ (p : Part). handed p.dds) h.0.1
+event_keeps roster tests old (event.Tick now) reply new h = absurd h.0
+event_keeps roster tests old (event.Deliver packet) (Reported report) new (inl t, delivered) =
+    taken_keeps roster _ old.number _ 0 _ t.message.submessages old.part report.moves report.refused new.part t.taken
+event_keeps roster tests old (event.Deliver packet) (Reported report) new (inr t, delivered) =
     ap (λ (p : Part). handed p.dds) t.after
-event_keeps config tests old (event.Deliver packet) reply new h = absurd h
-event_keeps config tests old (event.Resume k) reply new h =
-    let g : Grounds = claimed_by config (packets_of old.delivered) old.number in
+event_keeps roster tests old (event.Deliver packet) reply new h = absurd h
+event_keeps roster tests old (event.Resume k) reply new h =
+    let g : Grounds = claimed_by roster (packets_of old.delivered) old.number in
     let made = as_moves g old.part k reply new.part h.0 in
     moves_keep g old.part made.0 new.part made.1
 
-pub keeps_filters : (config : Config) (tests : Tests) (old : Peer) (ev : Event) (output : Output) (new : Peer)
-    → PeerStep config tests old ev output new
+pub keeps_filters : (roster : Roster) (tests : Tests) (old : Peer) (ev : Event) (output : Output) (new : Peer)
+    → PeerStep roster tests old ev output new
     → new.part.dds.watch.filters ≡ old.part.dds.watch.filters
-keeps_filters config tests old ev output new h =
-    ap (λ (x : Handed). x.filters) (event_keeps config tests old ev output.reply new h.step)
+keeps_filters roster tests old ev output new h =
+    ap (λ (x : Handed). x.filters) (event_keeps roster tests old ev output.reply new h.step)
 
-pub keeps_listeners : (config : Config) (tests : Tests) (old : Peer) (ev : Event) (output : Output) (new : Peer)
-    → PeerStep config tests old ev output new
+pub keeps_listeners : (roster : Roster) (tests : Tests) (old : Peer) (ev : Event) (output : Output) (new : Peer)
+    → PeerStep roster tests old ev output new
     → new.part.dds.listeners ≡ old.part.dds.listeners
-keeps_listeners config tests old ev output new h =
-    ap (λ (x : Handed). x.listeners) (event_keeps config tests old ev output.reply new h.step)
+keeps_listeners roster tests old ev output new h =
+    ap (λ (x : Handed). x.listeners) (event_keeps roster tests old ev output.reply new h.step)
 
 opens_none : (peers : List PeerConfig) (n : ℕ) (ps : List PeerConfig) (i : ℕ)
     → (get_or (opening_peers peers n ps) i no_peer).part.dds.watch.filters ≡ 0

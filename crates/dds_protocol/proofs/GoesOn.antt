@@ -3,7 +3,7 @@
 use Rattle.std.proofs.Common.{◌≡◌, ℕ, ◌+◌, ◌≤◌, Bool, true, false, None, Some, List, [], ◌∷◌, ◌++◌, map, length, refl, subst, ap, sym, ◌∙◌, inl, inr, ⊎_elim, arith, append_assoc, length-append, Option}
 use Rattle.std.specs.Prelude.{if◌then◌else◌}
 use Rattle.dds_base.specs.declared.change.Change.{Change}
-use Rattle.dds_base.specs.declared.config.Config.{Config}
+use Rattle.dds_protocol.specs.Roster.{Roster}
 use Rattle.dds_base.specs.declared.guid.GuidPrefix.{GuidPrefix}
 use Rattle.dds_base.specs.declared.happening.Happening.{Happening}
 use Rattle.dds_base.specs.declared.qos.MatchedWriter.{MatchedWriter}
@@ -31,7 +31,7 @@ use Rattle.dds_protocol.specs.Claims.{Receiver, receiver_of, after_submessage}
 use Rattle.dds_protocol.proofs.Resumed.{as_moves}
 use Rattle.dds_protocol.specs.DueMessages.{was_asked}
 use Rattle.dds_protocol.specs.Peer.{Peer, PeerStep, EventStep, claimed, claimed_by, packets_of}
-use Rattle.dds_protocol.specs.Receipt.{TakesUp, Receives, prefix_of}
+use Rattle.dds_protocol.specs.Receipt.{TakesUp, Receives}
 use Rattle.dds_protocol.proofs.Alike.{AlikeParts, end_alike}
 use Rattle.dds_protocol.proofs.CallChanges.{CallChange, unchanged, reads, takes, looks, watches, is_told, sees_matches, changes_of}
 use Rattle.dds_machine.proofs.Tables.{numbered-cases, numbered-map-cases}
@@ -253,46 +253,46 @@ by_moves g old (HasBegun w k from to ∷ ms) new h =
     (more_same (own_reader old k).happened)))
     (by_moves g h.0 ms new h.2)
 
-by_taking : (config : Config) (gs : ℕ → Grounds) (peer : ℕ) (own : GuidPrefix) (index : ℕ) (at : Receiver)
+by_taking : (roster : Roster) (gs : ℕ → Grounds) (peer : ℕ) (own : GuidPrefix) (index : ℕ) (at : Receiver)
     (ss : List Submessage) (old : Part) (moves : List Move) (refused : Option ℕ) (new : Part)
-    → TakesUp config gs peer own index at ss old moves refused new → AllGoOn old.dds.readers new.dds.readers
-by_taking config gs peer own index at [] old moves refused new h =
+    → TakesUp roster gs peer own index at ss old moves refused new → AllGoOn old.dds.readers new.dds.readers
+by_taking roster gs peer own index at [] old moves refused new h =
     subst (λ (p : Part). AllGoOn old.dds.readers p.dds.readers) (sym h.2) (all_same old.dds.readers)
-by_taking config gs peer own index at (s ∷ ss) old moves refused new (inl h) =
+by_taking roster gs peer own index at (s ∷ ss) old moves refused new (inl h) =
     subst (λ (p : Part). AllGoOn old.dds.readers p.dds.readers) (sym h.2) (all_same old.dds.readers)
-by_taking config gs peer own index at (s ∷ ss) old moves refused new (inr h) =
+by_taking roster gs peer own index at (s ∷ ss) old moves refused new (inr h) =
     all_on old.dds.readers h.2.dds.readers new.dds.readers (by_moves (gs index) old h.0 h.2 h.4)
-    (by_taking config gs peer own (index + 1) (after_submessage own at s) ss h.2 h.1 refused new h.6)
+    (by_taking roster gs peer own (index + 1) (after_submessage own at s) ss h.2 h.1 refused new h.6)
 
-by_packet : (config : Config) (gs : ℕ → Grounds) (peer : ℕ) (bytes : List ℕ) (old : Part) (report : Report)
-    (new : Part) → Receives config gs peer bytes old report new → AllGoOn old.dds.readers new.dds.readers
-by_packet config gs peer bytes old report new (inl h) =
-    by_taking config gs peer (prefix_of config peer) 0 (receiver_of h.message.prefix) h.message.submessages old
+by_packet : (roster : Roster) (gs : ℕ → Grounds) (peer : ℕ) (bytes : List ℕ) (old : Part) (report : Report)
+    (new : Part) → Receives roster gs peer bytes old report new → AllGoOn old.dds.readers new.dds.readers
+by_packet roster gs peer bytes old report new (inl h) =
+    by_taking roster gs peer (roster.prefix peer) 0 (receiver_of h.message.prefix) h.message.submessages old
     report.moves report.refused new h.taken
-by_packet config gs peer bytes old report new (inr h) =
+by_packet roster gs peer bytes old report new (inr h) =
     subst (λ (p : Part). AllGoOn old.dds.readers p.dds.readers) (sym h.after) (all_same old.dds.readers)
 
 -- ---- an event
 
-by_event : (config : Config) (tests : Tests) (old : Peer) (e : Event) (reply : Reply) (new : Peer)
-    → EventStep config tests old e reply new → AllGoOn old.part.dds.readers new.part.dds.readers
-by_event config tests old (event.Call call) reply new h =
+by_event : (roster : Roster) (tests : Tests) (old : Peer) (e : Event) (reply : Reply) (new : Peer)
+    → EventStep roster tests old e reply new → AllGoOn old.part.dds.readers new.part.dds.readers
+by_event roster tests old (event.Call call) reply new h =
     by_call old.part new.part.dds (changes_of tests old.part call reply new.part.dds h.0.answers)
-by_event config tests old (event.Tick now) reply new h =
+by_event roster tests old (event.Tick now) reply new h =
     by_tick old.part now reply new.part (was_asked old.known.answered old.part, h.0)
-by_event config tests old (event.Deliver packet) (Reported report) new h =
-    by_packet config (claimed config old.delivered packet old.part.rtps.readers old.number) old.number packet old.part
+by_event roster tests old (event.Deliver packet) (Reported report) new h =
+    by_packet roster (claimed roster old.delivered packet old.part.rtps.readers old.number) old.number packet old.part
     report new.part h.0
-by_event config tests old (event.Deliver packet) reply new h = absurd h
-by_event config tests old (event.Resume k) reply new h =
-    let g : Grounds = claimed_by config (packets_of old.delivered) old.number in
+by_event roster tests old (event.Deliver packet) reply new h = absurd h
+by_event roster tests old (event.Resume k) reply new h =
+    let g : Grounds = claimed_by roster (packets_of old.delivered) old.number in
     let made = as_moves g old.part k reply new.part h.0 in
     by_moves g old.part made.0 new.part made.1
 
 -- each reader of the peer
-pub each_goes_on : (config : Config) (tests : Tests) (old : Peer) (e : Event) (output : Output) (new : Peer)
-    → PeerStep config tests old e output new → (n : ℕ) → GoesOn (own_reader old.part n) (own_reader new.part n)
-each_goes_on config tests old e output new step = by_event config tests old e output.reply new step.step
+pub each_goes_on : (roster : Roster) (tests : Tests) (old : Peer) (e : Event) (output : Output) (new : Peer)
+    → PeerStep roster tests old e output new → (n : ℕ) → GoesOn (own_reader old.part n) (own_reader new.part n)
+each_goes_on roster tests old e output new step = by_event roster tests old e output.reply new step.step
 
 -- and at the end of the event
 pub end_goes_on : (before part : Part) (n : ℕ) → GoesOn (own_reader part n) (own_reader (at_end before part) n)

@@ -3,7 +3,7 @@ use Rattle.std.proofs.Common.{◌≡◌, ◌⊎◌, ℕ, ℤ, ◌<◌, ◌≤◌
 use Rattle.std.specs.Prelude.{if◌then◌else◌}
 use Rattle.std.proofs.lemmas.Bool.Decides.{nat_tests}
 use Rattle.dds_base.specs.declared.change.Change.{Change}
-use Rattle.dds_base.specs.declared.config.Config.{Config}
+use Rattle.dds_protocol.specs.Roster.{Roster}
 use Rattle.rtps_sets.specs.NumberSet.{NumberSet}
 use Rattle.rtps_reader.specs.declared.step.AckNackDue.{AckNackDue}
 use Rattle.rtps_reader.specs.Tracked.{Slot, Missing, Held, Irrelevant, Tracked, is_passable_slot, is_open, is_named, with_data, with_gap, with_heartbeat}
@@ -35,15 +35,15 @@ passable_or_held : (first n : ℕ) (b : Bool) (new : Change) (s : Slot)
 passable_or_held first n true new s h = cc
 passable_or_held first n false new s h = h
 
-pub data_claimed : (config : Config) (peer : ℕ) (packets : List (List ℕ)) (w : Endpoint) (r number : ℕ) (c : Change)
-    (t : Tracked) → IsClaimed config peer packets w r t
-    → Claimed config packets (ChangeIs w (reader_at peer r) number c)
-    → IsClaimed config peer packets w r (with_data number c t)
-data_claimed config peer packets w r number c t k says = record {
+pub data_claimed : (roster : Roster) (peer : ℕ) (packets : List (List ℕ)) (w : Endpoint) (r number : ℕ) (c : Change)
+    (t : Tracked) → IsClaimed roster peer packets w r t
+    → Claimed roster packets (ChangeIs w (reader_at peer r) number c)
+    → IsClaimed roster peer packets w r (with_data number c t)
+data_claimed roster peer packets w r number c t k says = record {
   from = k.from;
   change = λ n d low h.
-      ⊎_elim (λ e. subst (λ (m : ℕ). Claimed config packets (ChangeIs w (reader_at peer r) m d)) e.0
-      (subst (λ (x : Change). Claimed config packets (ChangeIs w (reader_at peer r) number x)) e.1 says))
+      ⊎_elim (λ e. subst (λ (m : ℕ). Claimed roster packets (ChangeIs w (reader_at peer r) m d)) e.0
+      (subst (λ (x : Change). Claimed roster packets (ChangeIs w (reader_at peer r) number x)) e.1 says))
       (λ o. k.change n d low o)
       (held_or number n (is_open t n) c d (t.slot n) h);
   pass = λ n low h. k.pass n low (passable_or_held t.first n ((number == n) && is_open t n) c (t.slot n) h);
@@ -61,11 +61,11 @@ passable_or_named : (first n : ℕ) (named free : Bool) (s : Slot)
 passable_or_named first n true free s h = inl refl
 passable_or_named first n false free s h = inr h
 
-pub gap_claimed : (config : Config) (peer : ℕ) (packets : List (List ℕ)) (w : Endpoint) (r start : ℕ) (list : NumberSet)
-    (t : Tracked) → IsClaimed config peer packets w r t
-    → ((n : ℕ) → 1 ≤ n → is_named start list n ≡ true → Claimed config packets (MayPass w (reader_at peer r) n))
-    → IsClaimed config peer packets w r (with_gap start list t)
-gap_claimed config peer packets w r start list t k says = record {
+pub gap_claimed : (roster : Roster) (peer : ℕ) (packets : List (List ℕ)) (w : Endpoint) (r start : ℕ) (list : NumberSet)
+    (t : Tracked) → IsClaimed roster peer packets w r t
+    → ((n : ℕ) → 1 ≤ n → is_named start list n ≡ true → Claimed roster packets (MayPass w (reader_at peer r) n))
+    → IsClaimed roster peer packets w r (with_gap start list t)
+gap_claimed roster peer packets w r start list t k says = record {
   from = k.from;
   change = λ n d low h. k.change n d low (held_still (is_named start list n && is_open t n) (t.slot n) d h);
   pass = λ n low h.
@@ -87,11 +87,11 @@ passable_or_below first more n Missing h = by (nat_lt n first) (nat_lt n more) r
 passable_or_below first more n (Held c) h = cc
 passable_or_below first more n Irrelevant h = inr refl
 
-pub heartbeat_claimed : (config : Config) (peer : ℕ) (packets : List (List ℕ)) (w : Endpoint) (r first : ℕ) (count : ℤ)
-    (t : Tracked) → IsClaimed config peer packets w r t
-    → ((n : ℕ) → 1 ≤ n → n < first → Claimed config packets (MayPass w (reader_at peer r) n))
-    → IsClaimed config peer packets w r (with_heartbeat first count t)
-heartbeat_claimed config peer packets w r first count t k says = record {
+pub heartbeat_claimed : (roster : Roster) (peer : ℕ) (packets : List (List ℕ)) (w : Endpoint) (r first : ℕ) (count : ℤ)
+    (t : Tracked) → IsClaimed roster peer packets w r t
+    → ((n : ℕ) → 1 ≤ n → n < first → Claimed roster packets (MayPass w (reader_at peer r) n))
+    → IsClaimed roster peer packets w r (with_heartbeat first count t)
+heartbeat_claimed roster peer packets w r first count t k says = record {
   from = k.from;
   change = k.change;
   pass = λ n low h.
@@ -102,9 +102,9 @@ heartbeat_claimed config peer packets w r first count t k says = record {
 
 -- the place goes on
 
-pub gone_claimed : (config : Config) (peer : ℕ) (packets : List (List ℕ)) (w : Endpoint) (r : ℕ) (t : Tracked) (to : ℕ)
-    (new : Tracked) → IsClaimed config peer packets w r t → HasGone t to new → IsClaimed config peer packets w r new
-gone_claimed config peer packets w r t to new k a =
+pub gone_claimed : (roster : Roster) (peer : ℕ) (packets : List (List ℕ)) (w : Endpoint) (r : ℕ) (t : Tracked) (to : ℕ)
+    (new : Tracked) → IsClaimed roster peer packets w r t → HasGone t to new → IsClaimed roster peer packets w r new
+gone_claimed roster peer packets w r t to new k a =
     let from = k.from in
     let place = a.place in
     let forward = a.forward in
@@ -117,11 +117,11 @@ gone_claimed config peer packets w r t to new k a =
           ∙ (ap (λ (f : ℕ). is_passable_slot f n (new.slot n)) (sym a.stays.first) ∙ e));
     }
 
-pub answered_claimed : (config : Config) (peer : ℕ) (packets : List (List ℕ)) (w : Endpoint) (r : ℕ)
-    (answer : Option AckNackDue) (t : Tracked) → IsClaimed config peer packets w r t
-    → IsClaimed config peer packets w r (answered answer t)
-answered_claimed config peer packets w r None t k = k
-answered_claimed config peer packets w r (Some due) t k = record { from = k.from; change = k.change; pass = k.pass }
+pub answered_claimed : (roster : Roster) (peer : ℕ) (packets : List (List ℕ)) (w : Endpoint) (r : ℕ)
+    (answer : Option AckNackDue) (t : Tracked) → IsClaimed roster peer packets w r t
+    → IsClaimed roster peer packets w r (answered answer t)
+answered_claimed roster peer packets w r None t k = k
+answered_claimed roster peer packets w r (Some due) t k = record { from = k.from; change = k.change; pass = k.pass }
 
 pub answered_same : (answer : Option AckNackDue) (t : Tracked)
     → ((answered answer t).place ≡ t.place) × ((answered answer t).count ≡ t.count)
@@ -129,11 +129,11 @@ answered_same None t = (refl, refl)
 answered_same (Some due) t = (refl, refl)
 
 -- more packets claim as much
-pub claimed_on : (config : Config) (peer : ℕ) (packets more : List (List ℕ)) (w : Endpoint) (r : ℕ) (t : Tracked)
-    → IsClaimed config peer packets w r t
-    → ((n : ℕ) (c : Change) → Claimed config packets (ChangeIs w (reader_at peer r) n c)
-    → Claimed config more (ChangeIs w (reader_at peer r) n c))
-    → ((n : ℕ) → Claimed config packets (MayPass w (reader_at peer r) n)
-    → Claimed config more (MayPass w (reader_at peer r) n)) → IsClaimed config peer more w r t
-claimed_on config peer packets more w r t k f g =
+pub claimed_on : (roster : Roster) (peer : ℕ) (packets more : List (List ℕ)) (w : Endpoint) (r : ℕ) (t : Tracked)
+    → IsClaimed roster peer packets w r t
+    → ((n : ℕ) (c : Change) → Claimed roster packets (ChangeIs w (reader_at peer r) n c)
+    → Claimed roster more (ChangeIs w (reader_at peer r) n c))
+    → ((n : ℕ) → Claimed roster packets (MayPass w (reader_at peer r) n)
+    → Claimed roster more (MayPass w (reader_at peer r) n)) → IsClaimed roster peer more w r t
+claimed_on roster peer packets more w r t k f g =
     record { from = k.from; change = λ n c low h. f n c (k.change n c low h); pass = λ n low h. g n (k.pass n low h) }

@@ -25,7 +25,8 @@ mod WorkedPeers
 mod WorkedReceipt
 mod WorkedTicks
 pub mod OwnGuids
-pub mod Finding
+pub mod OneName
+pub mod KnownRows
 pub mod Ways
 pub mod Knowing
 pub mod Framing
@@ -93,3 +94,4 @@ pub mod GoesOn
 pub mod Answered
 pub mod Rosters
 pub mod Coming
+pub mod Listed

@@ -11,16 +11,19 @@ use Rattle.dds_machine.specs.Numbered.{numbered, HasNumber}
 use Rattle.dds_machine.specs.Part.{Begun, row_of, NoLess, IsAtMost, same_endpoint, ReaderProxy, WriterProxy, Part, Reader, no_part, no_reader, no_writer, own_reader, own_writer, own_proxies, acknowledged_of, owed_from, place_of}
 use Rattle.dds_protocol.specs.Peer.{Peer, Delivery, no_peer}
 use Rattle.dds_machine.specs.Machine.{Machine, part_at, place_at, writer_at}
-use Rattle.dds_protocol.specs.World.{machine_of, Sound}
-use Rattle.dds_base.specs.Matched.{same_topic, is_reliable_reader}
+use Rattle.dds_protocol.specs.World.{machine_of}
+use Rattle.dds_base.specs.declared.qos.ReliabilityQos.{ReliabilityQos}
+use Rattle.dds_base.specs.Matched.{same_topic, is_reliable, is_reliable_reader}
 use Rattle.dds_base.specs.MatchedAt.{of_readers_in, of_writers_in}
 use Rattle.dds_protocol.proofs.Owing.{covered_below}
 use Rattle.dds_protocol.proofs.Ways.{both_true}
 use Rattle.dds_machine.specs.Opening.{reliable_readers, matched_writers, opening, opening_part, opening_reader, opening_writer}
 use Rattle.dds_protocol.specs.Claims.{IsNumbered}
 use Rattle.dds_protocol.specs.Coming.{OpensSoundFirst}
+use Rattle.dds_protocol.specs.Laws.{OpensSound}
 use Rattle.dds_protocol.specs.Opening.{opening_peers, opening_world}
 use Rattle.dds_protocol.specs.Roster.{ComeFirst}
+use Rattle.dds_protocol.proofs.Listed.{lists_reader, numbered_first, reliable_is}
 use Rattle.dds_machine.proofs.Tables.{append_nothing, same_is}
 
 -- ---- the parts of the network at its opening
@@ -319,7 +322,7 @@ opening_numbers peers zero h = absurd (omega (arith, h.0))
 opening_numbers peers (suc i) h =
     let high = h.1 in let e = opening_number peers 1 peers i (omega (arith, high)) in omega (arith, e)
 
--- the policies of readers are those of the configuration
+-- the policies of readers are those of the roster
 
 pub mapped_is : {X Y : Type 0} (f : X → Y) (xs : List X) (n : ℕ) (x : X) (d : Y) → 1 ≤ n → slice_get xs (n - 1) ≡ Some x
     → numbered (map f xs) n d ≡ f x
@@ -331,28 +334,16 @@ mapped_is {X = X} {Y = Y} f xs (suc i) x d low h = get_is xs i (ap (λ (k : ℕ)
     get_is (y ∷ ys) zero h = ap f (same_Some y x h)
     get_is (y ∷ ys) (suc k) h = get_is ys k h
 
--- an element of a list that goes on, of those that come first
-pub first_get : {X : Type 0} (xs ys : List X) (i : ℕ) (x : X) → i < length xs → slice_get (xs ++ ys) i ≡ Some x
-    → slice_get xs i ≡ Some x
-first_get [] ys i x lt h = absurd (omega (arith, lt))
-first_get (a ∷ as') ys zero x lt h = h
-first_get (a ∷ as') ys (suc i) x lt h = first_get as' ys i x (omega (arith, lt)) h
-
 opened_count : (all ps : List PeerConfig) (n : ℕ) → length (opening_peers all n ps) ≡ length ps
 opened_count all [] n = refl
 opened_count all (p ∷ ps) n = let e = opened_count all ps (n + 1) in omega (arith, e)
 
--- a peer of the opening is the same by a roster that goes on
-pub first_is : (config roster : Config) → ComeFirst config roster → (n : ℕ) (p : PeerConfig)
-    → HasNumber (opening_world config).peers n → IsNumbered roster.peers n p → IsNumbered config.peers n p
-first_is config roster first zero p there at = absurd (omega (arith, there.0))
-first_is config roster first (suc i) p there at =
+-- a number of the opening is one of the configuration
+pub opened_number : (config : Config) (n : ℕ) → HasNumber (opening_world config).peers n → HasNumber config.peers n
+opened_number config n there =
     let high = there.1 in
-    let count = opened_count config.peers config.peers 1 in (
-      at.0,
-      first_get config.peers first.0 (suc i - 1) p (omega (arith, high, count))
-          (subst (λ (ps : List PeerConfig). slice_get ps (suc i - 1) ≡ Some p) first.1 at.1),
-    )
+    let count = opened_count config.peers config.peers 1 in
+    (there.0, omega (arith, high, count))
 
 opening_policies : (config : Config) (i k : ℕ) (p : PeerConfig) (r : ReaderConfig) → IsNumbered config.peers i p
     → IsNumbered p.readers k r → (own_reader (part_at (opening config) i) k).qos.reliability ≡ r.reliability
@@ -371,14 +362,19 @@ opens_sound_first config roster first = record {
       let m : Machine = machine_of (opening_world config) in
       covered_below (acknowledged_of (writer_at m w).readers r) (place_at m r w) (owed_from (writer_at m w) r)
       (opening_acknowledged config.peers w.peer w.number r);
-  policies = λ i k p r lt here there.
-      ap (λ (m : Machine). (own_reader (part_at m i) k).qos.reliability) (opening_is config)
-      ∙ opening_policies config i k p r (first_is config roster first i p lt here) there;
+  policies = λ r entity lt at.
+      let x = lists_reader roster r entity at in
+      let here = numbered_first config roster first r.peer x.stands.peer (opened_number config r.peer lt)
+      x.stands.at_peer in
+      ap (λ (m : Machine). is_reliable (own_reader (part_at m r.peer) r.number).qos.reliability) (opening_is config)
+      ∙ (ap (λ (q : ReliabilityQos). is_reliable q)
+      (opening_policies config r.peer r.number x.stands.peer x.end here x.stands.at_end)
+      ∙ sym (reliable_is roster r x.stands.peer x.end x.stands.at_peer x.stands.at_end));
 }
 
 -- a configuration comes first in itself
 pub all_first : (config : Config) → ComeFirst config config
 all_first config = ([], sym (append_nothing config.peers))
 
-pub opens_sound : (config : Config) → Sound config (opening_world config)
+pub opens_sound : OpensSound
 opens_sound config = opens_sound_first config config (all_first config)

@@ -14,8 +14,10 @@ use Rattle.dds_machine.specs.Part.{Begun, row_of, same_endpoint, WriterProxy, ow
 use Rattle.dds_protocol.specs.Peer.{Peer, Delivery, no_peer, state_of, packets_of}
 use Rattle.dds_protocol.specs.Protocol.{Known, knows_nothing}
 use Rattle.dds_machine.specs.Opening.{matched_writers}
-use Rattle.dds_protocol.specs.Opening.{opening_peers, opening_world}
+use Rattle.dds_protocol.specs.Laws.{OpensBacked}
+use Rattle.dds_protocol.specs.Opening.{opening_peers}
 use Rattle.dds_protocol.specs.Backed.{IsBacked}
+use Rattle.dds_protocol.specs.Roster.{Roster}
 use Rattle.dds_protocol.proofs.Opened.{opening_delivered, writers_in}
 
 -- no change of these writers has come, and nothing was heard
@@ -107,8 +109,8 @@ peer_is_fresh peers n (p ∷ ps) (suc i) = peer_is_fresh peers (n + 1) ps i
 none_below : (n : ℕ) → nat_lt n 0 ≡ true → ⊥
 none_below n e = let low : n < 0 = grind (arith, nat_tests) in absurd (omega (arith, low))
 
-backed : (config : Config) (number : ℕ) (p : Peer) → IsFresh p → IsBacked config number [] [] (state_of p)
-backed config number p f = record {
+backed : (roster : Roster) (number : ℕ) (p : Peer) → IsFresh p → IsBacked roster number [] [] (state_of p)
+backed roster number p f = record {
   place = λ w r n h.
       ap (λ (k : Known). (k.tracked w r).place) f.known ∙ fresh_place (own_proxies p.part r) w n (f.proxies r) h;
   unknown = λ w r h. ap (λ (k : Known). (k.tracked w r).place) f.known;
@@ -124,21 +126,20 @@ backed config number p f = record {
 }
 
 -- at the opening all that a peer knows is what was claimed
-pub opens_backed : (config : Config) (peer : ℕ)
-    → IsBacked config peer [] [] (state_of (numbered (opening_world config).peers peer no_peer))
-opens_backed config zero = backed config zero no_peer none_is_fresh
-opens_backed config (suc i) =
+pub opens_backed : OpensBacked
+opens_backed config roster zero = backed roster zero no_peer none_is_fresh
+opens_backed config roster (suc i) =
     let peer : Peer = get_or (opening_peers config.peers 1 config.peers) i no_peer in
-    backed config (suc i) peer (peer_is_fresh config.peers 1 config.peers i)
+    backed roster (suc i) peer (peer_is_fresh config.peers 1 config.peers i)
 
 -- the same of the peer of this index, counted from 0, with what was delivered to it, which is nothing
 abbrev opened_peer : Config → ℕ → Peer
 opened_peer config i = get_or (opening_peers config.peers 1 config.peers) i no_peer
 
-pub opens_known : (config : Config) (i number : ℕ)
-    → IsBacked config number (packets_of (opened_peer config i).delivered) (opened_peer config i).delivered
+pub opens_known : (config : Config) (roster : Roster) (i number : ℕ)
+    → IsBacked roster number (packets_of (opened_peer config i).delivered) (opened_peer config i).delivered
     (state_of (opened_peer config i))
-opens_known config i number =
-    subst (λ (ds : List Delivery). IsBacked config number (packets_of ds) ds (state_of (opened_peer config i)))
+opens_known config roster i number =
+    subst (λ (ds : List Delivery). IsBacked roster number (packets_of ds) ds (state_of (opened_peer config i)))
     (sym (opening_delivered config.peers 1 config.peers i))
-    (backed config number (opened_peer config i) (peer_is_fresh config.peers 1 config.peers i))
+    (backed roster number (opened_peer config i) (peer_is_fresh config.peers 1 config.peers i))

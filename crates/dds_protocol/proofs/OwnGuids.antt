@@ -1,15 +1,13 @@
--- The matched writers of a reader have GUIDs of their own, where the configuration is not refused: a prefix is one
--- peer's, and an entity one writer's of it. Both are counted.
-use Rattle.std.proofs.Common.{◌≡◌, ℕ, zero, suc, ◌+◌, ◌-◌, ◌<◌, ◌≤◌, ◌⊎◌, Bool, true, false, cond, ◌&&◌, ◌||◌, Option, Some, None, List, [], ◌∷◌, refl, sym, ◌∙◌, ap, subst, inl, inr, ⊎_elim, arith, length, length-append, slice_get, if◌then◌else◌}
-use Rattle.std.specs.Prelude.{nat_eq, nat_lt, ◌==◌, not}
+-- The ends of good peers have GUIDs of their own, and so have the matched writers of a reader: a prefix is one peer's,
+-- and an entity one end's of it. Both are counted.
+use Rattle.std.proofs.Common.{◌≡◌, ℕ, zero, suc, ◌+◌, ◌-◌, ◌<◌, ◌≤◌, ◌⊎◌, Bool, true, false, cond, ◌&&◌, ◌||◌, Option, Some, None, List, [], ◌∷◌, refl, sym, ◌∙◌, ap, subst, inl, inr, ⊎_elim, arith, length, length-append, slice_get}
+use Rattle.std.specs.Prelude.{nat_eq, nat_lt, not}
 use Rattle.std.specs.Bool.{Decides}
 use Rattle.std.specs.List.{count_by, list_any}
 use Rattle.std.proofs.lemmas.Bool.{or_parts, ltb-false}
 use Rattle.std.proofs.lemmas.Bool.Decides.{Decides-eqb}
 use Rattle.std.proofs.lemmas.List.Sums.{sum_by-append, sum_by-cons}
 use Rattle.std.proofs.lemmas.Slice.Eq.{slice_eq-Decides}
-use Rattle.dds_base.specs.declared.code.Code.{Code}
-use Rattle.dds_base.specs.declared.code.Code.TheVariants.{BadParameter, InconsistentPolicy}
 use Rattle.dds_base.specs.declared.config.PeerConfig.{PeerConfig}
 use Rattle.dds_base.specs.declared.config.WriterConfig.{WriterConfig}
 use Rattle.dds_base.specs.declared.config.ReaderConfig.{ReaderConfig}
@@ -24,13 +22,12 @@ use Rattle.dds_base.specs.Ownership.{HaveOwnGuids, joined_in, writer_of}
 use Rattle.dds_base.specs.declared.happening.Happening.{Happening}
 use Rattle.dds_base.proofs.JoinLaws.{nobody-joined, still-of-opening}
 use Rattle.dds_base.specs.declared.endpoint.Endpoint.{Endpoint}
-use Rattle.dds_base.specs.declared.config.Config.{Config}
-use Rattle.dds_protocol.specs.Claims.{Receiver, Names, IsNumbered, IsWriter, IsReader, IsToReader, every_reader, every_peer, participant_entity}
+use Rattle.dds_protocol.specs.Claims.{IsNumbered}
 use Rattle.std.proofs.lemmas.Option.{same_Some}
 use Rattle.dds_machine.specs.Part.{Begun, WriterProxy, same_endpoint, publication_from}
 use Rattle.dds_machine.specs.Opening.{matched_writers, writer_qos, reader_qos}
 use Rattle.dds_protocol.specs.Laws.{ReadersTellWritersApart}
-use Rattle.dds_protocol.specs.Roster.{IsRoster, has_bad_prefix}
+use Rattle.dds_protocol.specs.Roster.{AreGood, has_bad_prefix}
 
 -- ---- the tests of names
 
@@ -176,18 +173,18 @@ in_peers g topic n (p ∷ ps) each =
     let prefixes = count-cons (λ (q : PeerConfig). same_prefix q.prefix g.prefix) p ps in
     omega arith
 
--- ---- a roster
+-- ---- peers that are good
 
 -- what is asked of the prefixes, and of each peer's writers
-record IsChecked (peers : List PeerConfig) : Type 0 where
-  prefixes : (i : ℕ) (p : PeerConfig) → slice_get peers i ≡ Some p → prefix_count peers p.prefix ≤ 1
-  entities : (i : ℕ) (p : PeerConfig) → slice_get peers i ≡ Some p → (j : ℕ) (w : WriterConfig)
+pub record IsChecked (peers : List PeerConfig) : Type 0 where
+  pub prefixes : (i : ℕ) (p : PeerConfig) → slice_get peers i ≡ Some p → prefix_count peers p.prefix ≤ 1
+  pub entities : (i : ℕ) (p : PeerConfig) → slice_get peers i ≡ Some p → (j : ℕ) (w : WriterConfig)
       → slice_get p.writers j ≡ Some w → entity_count p w.entity ≤ 1
-  readers : (i : ℕ) (p : PeerConfig) → slice_get peers i ≡ Some p → (j : ℕ) (r : ReaderConfig)
+  pub readers : (i : ℕ) (p : PeerConfig) → slice_get peers i ≡ Some p → (j : ℕ) (r : ReaderConfig)
       → slice_get p.readers j ≡ Some r → entity_count p r.entity ≤ 1
-  kinds : (i : ℕ) (p : PeerConfig) → slice_get peers i ≡ Some p → (j : ℕ) (r : ReaderConfig)
+  pub kinds : (i : ℕ) (p : PeerConfig) → slice_get peers i ≡ Some p → (j : ℕ) (r : ReaderConfig)
       → slice_get p.readers j ≡ Some r → has_kind 7 r.entity ≡ true
-  known : (i : ℕ) (p : PeerConfig) → slice_get peers i ≡ Some p → same_prefix p.prefix unknown_prefix ≡ false
+  pub known : (i : ℕ) (p : PeerConfig) → slice_get peers i ≡ Some p → same_prefix p.prefix unknown_prefix ≡ false
 
 good_writers : (p : PeerConfig) → is_bad_peer p ≡ false
     → list_any (λ (w : WriterConfig). nat_lt 1 (entity_count p w.entity)) p.writers ≡ false
@@ -216,33 +213,34 @@ not_not : (b : Bool) → not b ≡ false → b ≡ true
 not_not true h = refl
 not_not false h = absurd cc
 
-checked : (peers : List PeerConfig) → IsRoster peers → IsChecked peers
-checked peers roster =
+pub checked : (peers : List PeerConfig) → AreGood peers → IsChecked peers
+checked peers fits =
     record {
       prefixes = λ i p at.
-          let both = none-passes (has_bad_prefix peers) peers i p roster.prefixes at in
+          let both = none-passes (has_bad_prefix peers) peers i p fits.prefixes at in
           ltb-false 1 (prefix_count peers p.prefix)
           (or_parts (same_prefix p.prefix unknown_prefix) (nat_lt 1 (prefix_count peers p.prefix)) both).1;
       entities = λ i p at j w within.
-          let writers = good_writers p (none-passes is_bad_peer peers i p roster.each at) in
+          let writers = good_writers p (none-passes is_bad_peer peers i p fits.each at) in
           ltb-false 1 (entity_count p w.entity)
           (none-passes (λ (v : WriterConfig). nat_lt 1 (entity_count p v.entity)) p.writers j w writers within);
       readers = λ i p at j r within.
-          let both = good_readers p (none-passes is_bad_peer peers i p roster.each at) in
+          let both = good_readers p (none-passes is_bad_peer peers i p fits.each at) in
           ltb-false 1 (entity_count p r.entity)
           (none-passes (λ (v : ReaderConfig). nat_lt 1 (entity_count p v.entity)) p.readers j r both.0 within);
       kinds = λ i p at j r within.
-          let both = good_readers p (none-passes is_bad_peer peers i p roster.each at) in
+          let both = good_readers p (none-passes is_bad_peer peers i p fits.each at) in
           not_not (has_kind 7 r.entity)
           (or_parts (not (has_kind 7 r.entity)) _ (none-passes is_bad_reader p.readers j r both.1 within)).0;
       known = λ i p at.
-          let both = none-passes (has_bad_prefix peers) peers i p roster.prefixes at in
+          let both = none-passes (has_bad_prefix peers) peers i p fits.prefixes at in
           (or_parts (same_prefix p.prefix unknown_prefix) (nat_lt 1 (prefix_count peers p.prefix)) both).0;
     }
 
 -- ---- the matched writers of a reader
 
-entity_once : (peers : List PeerConfig) → IsChecked peers → (i : ℕ) (p : PeerConfig) → slice_get peers i ≡ Some p
+-- an entity is that of one writer of a peer at most
+pub entity_once : (peers : List PeerConfig) → IsChecked peers → (i : ℕ) (p : PeerConfig) → slice_get peers i ≡ Some p
     → (entity : EntityId) → writers_of entity p.writers ≤ 1
 entity_once peers good i p at entity =
     one_of_each same_entity (λ (w : WriterConfig). w.entity) p.writers (λ a b. (entity-Decides a b).0)
@@ -336,7 +334,7 @@ tell_apart config peer reader fits at_peer at_reader =
           still-of-opening (reader_qos config.peers reader) h handle (omega arith) (omega arith);
     }
 
--- ---- a name of the configuration is that of one writer
+-- ---- a name is that of one end
 
 -- two places of a list that both pass are one, where no more than one passes
 one_place : {X : Type 0} (test : X → Bool) (xs : List X) (i j : ℕ) (a b : X) → count_by test xs ≤ 1
@@ -359,7 +357,7 @@ same_endpoints a b p n = ap (λ (x : ℕ). endpoint_of x a.number) p ∙ ap (λ 
 number_of : (m n : ℕ) → 1 ≤ m → 1 ≤ n → m - 1 ≡ n - 1 → m ≡ n
 number_of m n low_m low_n same = omega arith
 
--- a prefix of the configuration is that of one peer
+-- a prefix is that of one peer
 one_peer : (peers : List PeerConfig) → IsChecked peers → (prefix : GuidPrefix) (a b : ℕ) (p q : PeerConfig)
     → IsNumbered peers a p → IsNumbered peers b q → p.prefix ≡ prefix → q.prefix ≡ prefix
     → (a ≡ b) × (p ≡ q)
@@ -375,7 +373,7 @@ one_peer peers good prefix a b p q at_a at_b of_p of_q =
     (number_of a b at_a.0 at_b.0 places, same_Some p q (sym there ∙ at_b.1))
 
 -- an entity that stands once among these ends of each peer is, with its prefix, that of one of them
-one_end : {E : Type 0} (entity_of : E → EntityId) (ends_of : PeerConfig → List E) (peers : List PeerConfig)
+pub one_end : {E : Type 0} (entity_of : E → EntityId) (ends_of : PeerConfig → List E) (peers : List PeerConfig)
     → IsChecked peers → (prefix : GuidPrefix) (entity : EntityId) (a b : Endpoint) (p q : PeerConfig) (x y : E)
     → ((i : ℕ) (o : PeerConfig) → slice_get peers i ≡ Some o
     → count_by (λ e. same_entity (entity_of e) entity) (ends_of o) ≤ 1)
@@ -392,95 +390,10 @@ one_end {E} entity_of ends_of peers good prefix entity a b p q x y once at_p at_
     ((entity-Decides (entity_of x) entity).1 of_x) ((entity-Decides (entity_of y) entity).1 of_y) in
     same_endpoints a b peer.0 (number_of a.number b.number within.0 at_y.0 places)
 
-pub one_writer : (config : Config) (prefix : GuidPrefix) (entity : EntityId) (a b : Endpoint)
-    → IsRoster config.peers → IsWriter config prefix entity a → IsWriter config prefix entity b → a ≡ b
-one_writer config prefix entity a b fits x y =
-    let good = checked config.peers fits in
-    one_end (λ (w : WriterConfig). w.entity) (λ p. p.writers) config.peers good prefix entity a b x.peer y.peer x.end
-    y.end (λ i p at. entity_once config.peers good i p at entity) x.at_peer y.at_peer x.same_prefix y.same_prefix
-    x.at_writer y.at_writer x.same_entity y.same_entity
-
 -- an entity is that of one reader of a peer at most
-reader_once : (peers : List PeerConfig) → IsChecked peers → (i : ℕ) (p : PeerConfig) → slice_get peers i ≡ Some p
+pub reader_once : (peers : List PeerConfig) → IsChecked peers → (i : ℕ) (p : PeerConfig) → slice_get peers i ≡ Some p
     → (entity : EntityId)
     → count_by (λ (r : ReaderConfig). same_entity r.entity entity) p.readers ≤ 1
 reader_once peers good i p at entity =
     one_of_each same_entity (λ (r : ReaderConfig). r.entity) p.readers (λ a b. (entity-Decides a b).0)
     (λ j r within. let all = good.readers i p at j r within in omega arith) entity
-
-pub one_reader : (config : Config) (prefix : GuidPrefix) (entity : EntityId) (a b : Endpoint)
-    → IsRoster config.peers → IsReader config prefix entity a → IsReader config prefix entity b → a ≡ b
-one_reader config prefix entity a b fits x y =
-    let good = checked config.peers fits in
-    one_end (λ (r : ReaderConfig). r.entity) (λ p. p.readers) config.peers good prefix entity a b x.peer y.peer x.end
-    y.end (λ i p at. reader_once config.peers good i p at entity) x.at_peer y.at_peer x.same_prefix y.same_prefix
-    x.at_reader y.at_reader x.same_entity y.same_entity
-
--- no reader has the entity id that names all readers
-pub not_every_reader : (config : Config) (prefix : GuidPrefix) (entity : EntityId) (a : Endpoint)
-    → IsRoster config.peers → IsReader config prefix entity a → entity ≡ every_reader → ⊥
-not_every_reader config prefix entity a fits x every =
-    let good = checked config.peers fits in
-    let kind : has_kind 7 x.end.entity ≡ true =
-    good.kinds (a.peer - 1) x.peer x.at_peer.1 (a.number - 1) x.end x.at_reader.1 in
-    let other : has_kind 7 x.end.entity ≡ false = ap (λ (e : EntityId). has_kind 7 e) (x.same_entity ∙ every) in
-    absurd cc
-
--- no writer's prefix is the one that names every peer
-pub not_every_peer : (config : Config) (prefix : GuidPrefix) (entity : EntityId) (a : Endpoint)
-    → IsRoster config.peers → IsWriter config prefix entity a → same_prefix prefix every_peer ≡ false
-not_every_peer config prefix entity a fits x =
-    let good = checked config.peers fits in
-    ap (λ (p : GuidPrefix). same_prefix p unknown_prefix) (sym x.same_prefix)
-    ∙ good.known (a.peer - 1) x.peer x.at_peer.1
-
--- nor is any reader's
-pub not_every_peer_of : (config : Config) (prefix : GuidPrefix) (entity : EntityId) (a : Endpoint)
-    → IsRoster config.peers → IsReader config prefix entity a → same_prefix prefix every_peer ≡ false
-not_every_peer_of config prefix entity a fits x =
-    let good = checked config.peers fits in
-    ap (λ (p : GuidPrefix). same_prefix p unknown_prefix) (sym x.same_prefix)
-    ∙ good.known (a.peer - 1) x.peer x.at_peer.1
-
-pub first_of : (a b : Bool) → (a || b) ≡ true → b ≡ false → a ≡ true
-first_of true b h none = refl
-first_of false b h none = cc
-
--- a submessage for the peer of a reader, which it names, is for that reader alone
-pub one_named : (config : Config) (prefix : GuidPrefix) (entity writer_id : EntityId) (far : GuidPrefix) (at : Receiver)
-    (w r reader : Endpoint) → IsRoster config.peers → at.dest_guid_prefix ≡ prefix
-    → IsReader config prefix entity reader → IsToReader config far at entity writer_id w r → r ≡ reader
-one_named config prefix entity writer_id far at w r reader fits dest is h = by h.entity h.named h.to
-  where
-    unknown : same_prefix prefix every_peer ≡ false
-    unknown = not_every_peer_of config prefix entity reader fits is
-
-    same : prefix ≡ far
-    same =
-        (prefix-Decides prefix far).0
-        (first_of (same_prefix prefix far) (same_prefix prefix every_peer)
-        (ap (λ (p : GuidPrefix). same_prefix p far || same_prefix p every_peer) (sym dest) ∙ h.is_for) unknown)
-
-    by : (named : EntityId) → Names entity named → IsReader config far named r → r ≡ reader
-    by named (inl e) there =
-        one_reader config prefix entity r reader fits
-        (subst (λ (p : GuidPrefix). IsReader config p entity r) (sym same)
-        (subst (λ (i : EntityId). IsReader config far i r) (sym e) there)) is
-    by named (inr every) there = absurd (not_every_reader config prefix entity reader fits is every)
-
--- one that names a participant is for no reader
-pub none_named : (config : Config) (writer_id : EntityId) (far : GuidPrefix) (at : Receiver) (w r : Endpoint)
-    → IsRoster config.peers → IsToReader config far at participant_entity writer_id w r → ⊥
-none_named config writer_id far at w r fits h = by h.entity h.named h.to
-  where
-    by : (named : EntityId) → Names participant_entity named → IsReader config far named r → ⊥
-    by named (inl e) there =
-        let good = checked config.peers fits in
-        let kind : has_kind 7 there.end.entity ≡ true =
-        good.kinds (r.peer - 1) there.peer there.at_peer.1 (r.number - 1) there.end there.at_reader.1 in
-        let other : has_kind 7 there.end.entity ≡ false =
-        ap (λ (i : EntityId). has_kind 7 i) (there.same_entity ∙ sym e) in
-        absurd cc
-    by named (inr every) there =
-        let apart : has_kind 193 participant_entity ≡ has_kind 193 every_reader =
-        ap (λ (i : EntityId). has_kind 193 i) every in absurd cc

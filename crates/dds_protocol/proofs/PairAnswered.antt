@@ -5,7 +5,6 @@ use Rattle.std.specs.List.{All, AllByRecursion, list_any}
 use Rattle.std.proofs.lemmas.Bool.Decides.{nat_tests}
 use Rattle.std.proofs.lemmas.List.Elements.{All-contains, All-from_recursion, All-head, All-tail, All-weaker}
 use Rattle.dds_base.specs.declared.change.Change.{Change}
-use Rattle.dds_base.specs.declared.config.ReaderConfig.{ReaderConfig}
 use Rattle.dds_base.specs.declared.guid.EntityId.{EntityId}
 use Rattle.std.proofs.lemmas.Bool.{and_parts}
 use Rattle.dds_base.specs.Kept.{change_at, is_kept}
@@ -32,9 +31,9 @@ use Rattle.dds_protocol.specs.Repair.{Delivers, DeliversAll}
 use Rattle.dds_protocol.proofs.DuesAcknacks.{ask_body, answer_names}
 use Rattle.dds_protocol.proofs.Framing.{number_or_not}
 use Rattle.dds_protocol.proofs.PairAsked.{Asking, Took, has_writer}
-use Rattle.dds_protocol.proofs.PairHeard.{Pairing, writer_prefix, reader_prefix, writer_id, reader_host, writer_host, there, back, for_itself, topic_is, to_reader, delivered_takes, delivered_others}
+use Rattle.dds_protocol.proofs.PairHeard.{Pairing, writer_prefix, reader_prefix, writer_id, reader_host, writer_host, there, back, for_itself, to_reader, delivered_takes, delivered_others}
 use Rattle.dds_protocol.proofs.PairMessages.{HasChange, Answered, answers_packet}
-use Rattle.dds_protocol.proofs.PairReader.{standing_of, Seat, reader_ends}
+use Rattle.dds_protocol.proofs.PairReader.{standing_of, Seat}
 use Rattle.dds_machine.specs.declared.event.WorldEvent.{WorldEvent}
 use Rattle.dds_machine.specs.declared.event.WorldEvent.TheVariants as world
 use Rattle.dds_protocol.specs.Noticing.{world_ended}
@@ -46,7 +45,7 @@ use Rattle.dds_machine.proofs.Tables.{numbered-same, acknowledged-hits}
 
 -- it is for the writer, from the reader, and for no other
 abbrev pub asking : (p : Pairing) (reader_id : EntityId)
-    → IsToReader p.config (reader_prefix p) (there p) reader_id (writer_id p) p.writer p.reader → AckNackDue → Asking
+    → IsToReader p.roster (reader_prefix p) (there p) reader_id (writer_id p) p.writer p.reader → AckNackDue → Asking
 asking p reader_id is x = record {
   host = writer_host p;
   at = back p;
@@ -59,14 +58,11 @@ asking p reader_id is x = record {
     named = inl refl;
     is_for = for_itself (writer_prefix p) (reader_prefix p);
     to = p.name;
-    matched = topic_is p
-        ∙ ap (λ (r : ReaderConfig). r.topic)
-        (sym (reader_ends p.config (reader_prefix p)
-        (reader_prefix p) is.entity p.pair.reader_entity p.reader is.to p.pair.is_reader));
+    matched = p.pair.matched;
   };
   names = λ k y to.
       let n =
-      answer_names p.config p.checked (reader_prefix p) (there p) reader_id (writer_id p) p.writer p.reader is
+      answer_names p.roster p.checked (reader_prefix p) (there p) reader_id (writer_id p) p.writer p.reader is
       (writer_prefix p) (reader_at p.writer.peer k) y to in
       (ap (λ (e : Endpoint). e.number) n.0, n.1);
 }
@@ -211,7 +207,7 @@ one_group : (p : Pairing) (tests : AllTests) (m : Match) (entity : EntityId) →
     → (changes : List Change) (g : List Answer) → IsWritable (group_due p entity changes g).message
     → All (HasChange changes) g
     → (old : WorldState) (lost : ℕ) (mid : WorldState)
-    → Delivers p.config tests old p.reader.peer (post (group_due p entity changes g)) lost mid
+    → Delivers p.roster tests old p.reader.peer (post (group_due p entity changes g)) lost mid
     → Seat m p.writer p.reader.number (state_of (peer_at old p.reader.peer))
     → Answered m p.writer p.reader.number g (state_of (peer_at old p.reader.peer))
     (state_of (peer_at mid p.reader.peer))
@@ -220,14 +216,14 @@ one_group p tests m entity is changes g writable all old lost mid h seat =
     (writer_id p) changes g m p.writer p.reader.number (to_reader p entity (inl is)) all
     (state_of (peer_at old p.reader.peer)) h.report h.step.dues
     (state_of (peer_at mid p.reader.peer)) seat writable h.whole
-    (delivered_takes p.config tests old p.reader.peer (post (group_due p entity changes g)) lost mid h)
+    (delivered_takes p.roster tests old p.reader.peer (post (group_due p entity changes g)) lost mid h)
 
 pub answers_delivered : (p : Pairing) (tests : AllTests) (m : Match) (entity : EntityId) → entity ≡ p.pair.reader_entity
     → (changes : List Change) (groups : List (List Answer))
     → AllByRecursion (λ (d : Due). IsWritable d.message) (map (group_due p entity changes) groups)
     → All (All (HasChange changes)) groups
     → (old new : WorldState) → Seat m p.writer p.reader.number (state_of (peer_at old p.reader.peer))
-    → DeliversAll p.config tests old p.reader.peer (map post (map (group_due p entity changes) groups)) new
+    → DeliversAll p.roster tests old p.reader.peer (map post (map (group_due p entity changes) groups)) new
     → Repaired p m groups old new
 answers_delivered p tests m entity is changes [] writable all old new seat h =
     subst (λ (x : WorldState). Repaired p m [] old x) (sym h) (record { seat = seat; takes = refl; rows = λ k. refl })
@@ -257,7 +253,7 @@ answers_delivered p tests m entity is changes (g ∷ gs) writable all old new se
           (⊎_elim (λ e. subst (λ (n : ℕ). (peer_at h.0 n).part.rtps.writers ≡ (peer_at old n).part.rtps.writers)
           (sym e) one.keeps.writers)
           (λ apart. ap (λ (x : Peer). x.part.rtps.writers)
-          (delivered_others p.config tests old p.reader.peer
+          (delivered_others p.roster tests old p.reader.peer
           (post (group_due p entity changes g)) h.1 h.0 h.2 p.writer.peer apart))
           (number_or_not p.writer.peer p.reader.peer)));
     }

@@ -28,14 +28,14 @@ pub record Asking : Type 0 where
   pub body : AckNackBody
   pub writer : ℕ
   pub reader : Endpoint
-  pub is_to : IsToWriter host.config host.own at body.reader_id body.writer_id (reader_at host.peer writer) reader
+  pub is_to : IsToWriter host.roster host.own at body.reader_id body.writer_id (reader_at host.peer writer) reader
   pub names : (k : ℕ) (x : Endpoint)
-      → IsToWriter host.config host.own at body.reader_id body.writer_id (reader_at host.peer k) x
+      → IsToWriter host.roster host.own at body.reader_id body.writer_id (reader_at host.peer k) x
       → (k ≡ writer) × (x ≡ reader)
 
 -- the writer took it, as from this reader
 pub record TookOf (c : Asking) (x : Endpoint) (old : State) (dues : List Due) (new : State) : Type 0 where
-  pub is : IsToWriter c.host.config c.host.own c.at c.body.reader_id c.body.writer_id (reader_at c.host.peer c.writer) x
+  pub is : IsToWriter c.host.roster c.host.own c.at c.body.reader_id c.body.writer_id (reader_at c.host.peer c.writer) x
   pub moves : List Move
   pub takes : TakesAckNack c.host.own c.at old c.writer x is.entity c.body moves dues new
 
@@ -43,7 +43,7 @@ abbrev pub Took : Asking → State → List Due → State → Type 0
 Took c old dues new = TookOf c c.reader old dues new
 
 abbrev ByWriter : Asking → ℕ → Endpoint → State → List Move → List Due → State → Type 0
-ByWriter c k x = WriterTakes c.host.config c.host.own c.host.peer c.at c.body k x
+ByWriter c k x = WriterTakes c.host.roster c.host.own c.host.peer c.at c.body k x
 
 abbrev ByRows : Asking → ℕ → List ReaderProxy → State → List Move → List Due → State → Type 0
 ByRows c k rows old moves dues new = InTurn (λ (p : ReaderProxy). ByWriter c k p.reader) rows old moves dues new
@@ -51,7 +51,7 @@ ByRows c k rows old moves dues new = InTurn (λ (p : ReaderProxy). ByWriter c k 
 -- the writer of this number takes none of it
 abbrev TakesNone : Asking → ℕ → State → Type 0
 TakesNone c k s =
-    (x : Endpoint) → IsToWriter c.host.config c.host.own c.at c.body.reader_id c.body.writer_id
+    (x : Endpoint) → IsToWriter c.host.roster c.host.own c.at c.body.reader_id c.body.writer_id
     (reader_at c.host.peer k) x → is_taken_up s k x c.body ≡ false
 
 rows_idle : (c : Asking) (k : ℕ) (rows : List ReaderProxy) (old : State) (moves : List Move) (dues : List Due)
@@ -107,7 +107,7 @@ rows_take c (p ∷ ps) old moves dues new taken row h =
     by h.7 (λ same next. rows_take c ps old h.1 h.3 new taken next
     (subst (λ (s : State). ByRows c c.writer ps s h.1 h.3 new) same h.8))
   where
-    here : (t : IsToWriter c.host.config c.host.own c.at c.body.reader_id c.body.writer_id
+    here : (t : IsToWriter c.host.roster c.host.own c.at c.body.reader_id c.body.writer_id
         (reader_at c.host.peer c.writer) p.reader)
         → TakesAckNack c.host.own c.at old c.writer p.reader t.entity c.body h.0 h.2 h.4 → Took c old dues new
     here t k =
@@ -131,7 +131,7 @@ rows_take c (p ∷ ps) old moves dues new taken row h =
         ⊎_elim
         (λ same.
         let no =
-        t.0 (subst (λ (x : Endpoint). IsToWriter c.host.config c.host.own c.at c.body.reader_id c.body.writer_id
+        t.0 (subst (λ (x : Endpoint). IsToWriter c.host.roster c.host.own c.at c.body.reader_id c.body.writer_id
         (reader_at c.host.peer c.writer) x) (sym same) c.is_to) in
         let is = ap (λ (x : Endpoint). is_taken_up old c.writer x c.body) same in absurd cc)
         (λ next. subst (λ (ds : List Due). Took c old ds new) (sym (h.6 ∙ ap (λ (ds : List Due). ds ++ h.3) t.1.1))
@@ -198,7 +198,7 @@ has_writer part (suc i) r h = (omega arith, within part.rtps.writers i h.1)
 -- an ACKNACK that is new, and whose base is not past the next number, is taken
 pub asked_takes : (c : Asking) (old : State) (moves : List Move) (dues : List Due) (new : State)
     → is_taken_up old c.writer c.reader c.body ≡ true → HasRow (own_writer old.part c.writer).readers c.reader
-    → Takes c.host.config c.host.own c.host.peer c.at (AckNack c.body) old moves dues new → Took c old dues new
+    → Takes c.host.roster c.host.own c.host.peer c.at (AckNack c.body) old moves dues new → Took c old dues new
 asked_takes c old moves dues new taken row h =
     let there = has_writer old.part c.writer c.reader row in
     let low = there.0 in

@@ -1,6 +1,6 @@
 -- A HEARTBEAT that begins a round is answered by an ACKNACK.
 use Rattle.std.proofs.Common.{◌≡◌, ℕ, ◌^◌, ◌-◌, ◌<◌, ◌≤◌, false, List, [], ◌∷◌, Option, Some, None, Contains, length, refl, subst, ap, sym, inl, inr, arith}
-use Rattle.dds_base.specs.declared.config.Config.{Config}
+use Rattle.dds_protocol.specs.Roster.{IsRoster, Roster}
 use Rattle.rtps_reader.specs.declared.step.AckNackDue.{AckNackDue}
 use Rattle.rtps_reader.specs.Answer.{AnswersHeartbeat}
 use Rattle.rtps_wire.specs.declared.submessage.Submessage.TheVariants.{AckNack}
@@ -16,7 +16,6 @@ use Rattle.dds_protocol.specs.World.{WorldState, machine_of, Sound}
 use Rattle.dds_protocol.specs.Bounds.{IsBounded}
 use Rattle.dds_protocol.specs.Fresh.{HasAckNack, HasUsedCounts, acknacks_used_at}
 use Rattle.dds_protocol.specs.Repair.{BeginsRound, IsPair, StandsAt, HasAskOf}
-use Rattle.dds_protocol.specs.Roster.{IsRoster}
 use Rattle.dds_protocol.proofs.CountsWritten.{contains_map}
 use Rattle.dds_protocol.proofs.Dues.{message_to, stands_in}
 use Rattle.dds_protocol.proofs.DuesAcknacks.{ask_body}
@@ -36,7 +35,7 @@ ask_due {c} t x = record {
 
 -- where that can be written, it has the ACKNACK of the reader to the writer
 pub is_ask : {c : Begun} → (t : Told c) (x : AckNackDue) → IsWritable (ask_due t x).message
-    → HasAckNack c.config (spelling_of (ask_due t x).message) c.writer c.reader x.count
+    → HasAckNack c.roster (spelling_of (ask_due t x).message) c.writer c.reader x.count
 is_ask {c} t x writable = record {
   own = writer_prefix (pairing c);
   at = back (pairing c);
@@ -50,7 +49,7 @@ is_ask {c} t x writable = record {
 
 -- it is among the packets that are sent, where none is lost
 ask_is_sent : {c : Begun} → (t : Told c) → c.begins.lost_asks ≡ 0 → (x : AckNackDue) → (hears t).answer ≡ Some x
-    → HasAskOf c.config c.writer c.reader c.begins.hears.step.packets
+    → HasAskOf c.roster c.writer c.reader c.begins.hears.step.packets
 ask_is_sent {c} t none x is = record {
   packet = post (ask_due t x);
   among = posted;
@@ -93,16 +92,16 @@ answered_by t few left (Some x) is h = (x, is)
 pub asks_found : {c : Begun} → Told c → the_last c < 2 ^ 62 → acknacks_used_at c.old c.writer c.reader < 2 ^ 31 - 1
     → c.begins.lost_asks ≡ 0
     → (p : Packet) × Contains c.begins.hears.step.packets p × (p.to ≡ c.writer.peer)
-    × Has p.bytes (sought.AckNack c.pair.reader_entity (writer_entity c.config c.writer.peer c.writer.number))
+    × Has p.bytes (sought.AckNack c.pair.reader_entity (writer_entity c.roster c.writer.peer c.writer.number))
 unfolding ask_is_sent is_ask stands_in
 asks_found {c} t few left none =
     let found = answered_by t few left (hears t).answer refl (hears t).answers in
     let sent = ask_is_sent t none found.0 found.1 in
     let entity : (hears t).is.entity ≡ c.pair.reader_entity =
-    reader_entities c.config (reader_prefix (pairing c)) (reader_prefix (pairing c))
+    reader_entities c.roster (reader_prefix (pairing c)) (reader_prefix (pairing c))
     (hears t).is.entity c.pair.reader_entity c.reader (hears t).is.to c.pair.is_reader in
     let has : Has sent.packet.bytes
-    (sought.AckNack c.pair.reader_entity (writer_entity c.config c.writer.peer c.writer.number)) = record {
+    (sought.AckNack c.pair.reader_entity (writer_entity c.roster c.writer.peer c.writer.number)) = record {
       message = sent.has.there.message;
       offset = sent.has.there.offset;
       is_read = sent.has.there.is_read;
@@ -110,18 +109,18 @@ asks_found {c} t few left none =
     } in
     (sent.packet, sent.among, sent.to, has)
 
-pub asks_are_sent : (config : Config) (tests : AllTests) (writer reader : Endpoint) (place acknowledged : ℕ)
-    (old heard : WorldState) → IsRoster config.peers → Sound config old → HasUsedCounts config old
-    → IsBounded (machine_of old) → IsPair config writer reader → StandsAt old writer reader place acknowledged
+pub asks_are_sent : (roster : Roster) (tests : AllTests) (writer reader : Endpoint) (place acknowledged : ℕ)
+    (old heard : WorldState) → IsRoster roster → Sound roster old → HasUsedCounts roster old
+    → IsBounded (machine_of old) → IsPair roster writer reader → StandsAt old writer reader place acknowledged
     → acknowledged ≤ length (writer_changes (writer_at (machine_of old) writer))
     → length (writer_changes (writer_at (machine_of old) writer)) < 2 ^ 62
     → acknacks_used_at old writer reader < 2 ^ 31 - 1
-    → (begins : BeginsRound config tests writer reader old heard) → begins.lost_asks ≡ 0
-    → HasAskOf config writer reader begins.hears.step.packets
-asks_are_sent config tests writer reader place acknowledged old heard checked sound used bounded pair stands behind few
+    → (begins : BeginsRound roster tests writer reader old heard) → begins.lost_asks ≡ 0
+    → HasAskOf roster writer reader begins.hears.step.packets
+asks_are_sent roster tests writer reader place acknowledged old heard checked sound used bounded pair stands behind few
     left begins none =
     let c : Begun =
-    the_begun config tests writer reader place acknowledged old heard checked sound used bounded pair stands begins in
+    the_begun roster tests writer reader place acknowledged old heard checked sound used bounded pair stands begins in
     let last : length (writer_changes (writer_at (machine_of old) writer)) ≡ the_last c =
     ap (λ (w : Writer). length (writer_changes w)) (writer_is old writer) in
     let t : Told c = told_of c (omega (arith, behind, last)) in

@@ -1,7 +1,7 @@
 -- How a round of repair of a writer and a reader begins: the HEARTBEAT is taken, and the reader's place goes on.
-use Rattle.std.proofs.Common.{◌≡◌, ℕ, pos, ◌+◌, ◌≤◌, ◌≤ℤ◌, true, List, [], Some, None, length, refl, subst, ap, sym, ◌∙◌, ◌⊎◌, inl, inr, ⊎_elim, arith}
+use Rattle.std.proofs.Common.{◌≡◌, ℕ, pos, ◌+◌, ◌≤◌, ◌≤ℤ◌, true, List, [], Some, length, refl, subst, ap, sym, ◌∙◌, ◌⊎◌, inl, inr, ⊎_elim, arith}
 use Rattle.dds_base.specs.declared.change.Change.{Change}
-use Rattle.dds_base.specs.declared.config.Config.{Config}
+use Rattle.dds_protocol.specs.Roster.{IsRoster, Roster}
 use Rattle.dds_base.specs.Places.{Match}
 use Rattle.dds_base.specs.Counts.{is_later}
 use Rattle.rtps_reader.specs.Tracked.{Tracked, with_heartbeat}
@@ -23,7 +23,6 @@ use Rattle.dds_protocol.specs.Bounds.{IsBounded}
 use Rattle.dds_protocol.specs.CatchUp.{Standing, GoesOn}
 use Rattle.dds_protocol.specs.Fresh.{HasUsedCounts, tracked_at}
 use Rattle.dds_protocol.specs.Repair.{beat_in, ticked_in, BeginsRound, IsPair, StandsAt}
-use Rattle.dds_protocol.specs.Roster.{IsRoster}
 use Rattle.dds_protocol.proofs.CaughtUp.{on_forward}
 use Rattle.dds_protocol.proofs.Composed.{parts_at}
 use Rattle.dds_protocol.proofs.DuesMatched.{own_name}
@@ -41,7 +40,7 @@ use Rattle.dds_protocol.proofs.BeatsTo.{beat_of, beat_message}
 
 -- the beginning of a round, and what it rests on
 pub record Begun : Type 0 where
-  pub config : Config
+  pub roster : Roster
   pub tests : AllTests
   pub writer : Endpoint
   pub reader : Endpoint
@@ -49,22 +48,22 @@ pub record Begun : Type 0 where
   pub acknowledged : ℕ
   pub old : WorldState
   pub heard : WorldState
-  pub checked : IsRoster config.peers
-  pub sound : Sound config old
-  pub used : HasUsedCounts config old
+  pub checked : IsRoster roster
+  pub sound : Sound roster old
+  pub used : HasUsedCounts roster old
   pub bounded : IsBounded (machine_of old)
-  pub pair : IsPair config writer reader
+  pub pair : IsPair roster writer reader
   pub stands : StandsAt old writer reader place acknowledged
-  pub begins : BeginsRound config tests writer reader old heard
+  pub begins : BeginsRound roster tests writer reader old heard
 
 -- the beginning of a round, and what it rests on
-abbrev pub the_begun : (config : Config) (tests : AllTests) (writer reader : Endpoint) (place acknowledged : ℕ)
-    (old heard : WorldState) → IsRoster config.peers → Sound config old → HasUsedCounts config old
-    → IsBounded (machine_of old) → IsPair config writer reader → StandsAt old writer reader place acknowledged
-    → BeginsRound config tests writer reader old heard → Begun
-the_begun config tests writer reader place acknowledged old heard checked sound used bounded pair stands begins =
+abbrev pub the_begun : (roster : Roster) (tests : AllTests) (writer reader : Endpoint) (place acknowledged : ℕ)
+    (old heard : WorldState) → IsRoster roster → Sound roster old → HasUsedCounts roster old
+    → IsBounded (machine_of old) → IsPair roster writer reader → StandsAt old writer reader place acknowledged
+    → BeginsRound roster tests writer reader old heard → Begun
+the_begun roster tests writer reader place acknowledged old heard checked sound used bounded pair stands begins =
     record {
-      config = config;
+      roster = roster;
       tests = tests;
       writer = writer;
       reader = reader;
@@ -103,20 +102,20 @@ HasRow w r a = acknowledged_of w.readers r ≡ Some a
 pub row_old : (c : Begun) → HasRow (the_writer c) c.reader c.acknowledged
 row_old c = subst (λ (w : Writer). HasRow w c.reader c.acknowledged) (writer_is c.old c.writer) c.stands.acknowledged_is
 
-pub part_of : (c : Begun) → IsPartOf c.config c.writer.peer (writer_part c)
+pub part_of : (c : Begun) → IsPartOf c.roster c.writer.peer (writer_part c)
 part_of c =
-    c.used.of_config c.writer.peer
-    (ticks_there c.config c.tests c.old c.writer.peer c.begins.now c.begins.ticked c.begins.ticks.step)
+    c.used.of_roster c.writer.peer
+    (ticks_there c.roster c.tests c.old c.writer.peer c.begins.now c.begins.ticked c.begins.ticks.step)
 
 abbrev pub pairing : Begun → Pairing
 pairing c = record {
-  config = c.config;
+  roster = c.roster;
   checked = c.checked;
   writer = c.writer;
   reader = c.reader;
   pair = c.pair;
   name =
-      (own_name c.config c.writer.peer (writer_part c) (part_of c) c.writer.number
+      (own_name c.roster c.writer.peer (writer_part c) (part_of c) c.writer.number
       (has_writer (writer_part c) c.writer.number c.reader (c.acknowledged, row_old c))).name;
 }
 
@@ -129,15 +128,15 @@ noted_tick c = ticked_in c.begins
 pub left : (c : Begun) (p : ℕ) → TickLeaves c.old (noted_tick c) p
 left c p =
     leaves_ended c.old (world.Tick c.writer.peer c.begins.now) c.begins.ticked p c.old
-    (tick_leaves c.config c.tests c.old c.writer.peer c.begins.now c.begins.ticked c.begins.ticks.step p)
+    (tick_leaves c.roster c.tests c.old c.writer.peer c.begins.now c.begins.ticked c.begins.ticks.step p)
 
 -- what the writer's peer knew of readers
 abbrev pub contacts_of : Begun → ℕ → Endpoint → Contact
 contacts_of c = (peer_at c.old c.writer.peer).known.answered
 
-pub beaten : (c : Begun) → BeatPacket c.config (contacts_of c) (writer_part c) c.writer c.begins.beat
+pub beaten : (c : Begun) → BeatPacket c.roster (contacts_of c) (writer_part c) c.writer c.begins.beat
 beaten c =
-    beat_packet c.config c.tests c.old c.begins.now c.begins.lost_beats c.begins.ticked c.writer c.begins.beat
+    beat_packet c.roster c.tests c.old c.begins.now c.begins.lost_beats c.begins.ticked c.writer c.begins.beat
     c.begins.beat_count c.checked (part_of c) c.begins.ticks c.begins.beat_sent c.begins.beat_of
 
 -- the reader's peer after the tick
@@ -210,11 +209,11 @@ met c =
     (hears_beats (stood c) c.stands.attached (pairing c) (contacts_of c) c.tests (writer_part c) (match c)
     (noted_tick c) c.begins.beat c.begins.lost_asks c.heard
     (subst
-    (λ (n : ℕ). IsWritable (beat_message c.config (contacts_of c) c.writer.peer (writer_part c) c.writer.number n))
+    (λ (n : ℕ). IsWritable (beat_message c.roster (contacts_of c) c.writer.peer (writer_part c) c.writer.number n))
     c.begins.beat_to (beaten c).writable)
     ((beaten c).bytes
     ∙ ap
-    (λ (n : ℕ). spelling_of (beat_message c.config (contacts_of c) c.writer.peer (writer_part c) c.writer.number n))
+    (λ (n : ℕ). spelling_of (beat_message c.roster (contacts_of c) c.writer.peer (writer_part c) c.writer.number n))
     c.begins.beat_to)
     c.begins.hears (seat_ticked c) (beat_later c))
 
@@ -231,7 +230,7 @@ keeps c = ⊎_elim (λ (t : Told c). t.of.heard.keeps) (λ (m : Missed c). m.of.
 -- ---- the HEARTBEAT that was heard
 
 abbrev pub body : {c : Begun} → Told c → HeartbeatBody
-body {c} t = beat_of c.config c.writer.peer (writer_part c) c.writer.number t.of.reader_id t.of.first t.of.last
+body {c} t = beat_of c.roster c.writer.peer (writer_part c) c.writer.number t.of.reader_id t.of.first t.of.last
 
 abbrev pub packet : {c : Begun} → (t : Told c)
     → Heard (pairing c) (body t) (match c) (ticked_reader c) c.begins.hears.step.dues (heard_reader c)
@@ -291,7 +290,7 @@ same_writers c =
     ⊎_elim (λ e. subst (λ (n : ℕ). (peer_at c.heard n).part.rtps.writers ≡ (peer_at (noted_tick c) n).part.rtps.writers)
     (sym e) (keeps c).writers)
     (λ apart. ap (λ (x : Peer). x.part.rtps.writers)
-    (delivered_others c.config c.tests
+    (delivered_others c.roster c.tests
     (noted_tick c) c.reader.peer c.begins.beat c.begins.lost_asks c.heard c.begins.hears c.writer.peer apart))
     (number_or_not c.writer.peer c.reader.peer)
 
@@ -305,7 +304,7 @@ same_answered c =
     ≡ ((peer_at (noted_tick c) n).known.answered c.writer.number c.reader).count) (sym e)
     (ap (λ (x : Contact). x.count) ((keeps c).answered c.writer.number c.reader)))
     (λ apart. ap (λ (x : Peer). (x.known.answered c.writer.number c.reader).count)
-    (delivered_others c.config c.tests
+    (delivered_others c.roster c.tests
     (noted_tick c) c.reader.peer c.begins.beat c.begins.lost_asks c.heard c.begins.hears c.writer.peer apart))
     (number_or_not c.writer.peer c.reader.peer)
     ∙ (left c c.writer.peer).known.counts c.writer.number c.reader)
@@ -352,15 +351,15 @@ standing_noted c =
     c.reader.number
 
 -- the network then
-pub sound_heard : (c : Begun) → Sound c.config c.heard × IsBounded (machine_of c.heard)
+pub sound_heard : (c : Begun) → Sound c.roster c.heard × IsBounded (machine_of c.heard)
 sound_heard c =
     let first =
-    stays_sound c.config c.tests c.old
+    stays_sound c.roster c.tests c.old
     (world.Tick c.writer.peer c.begins.now) Done c.begins.lost_beats c.begins.ticked c.begins.ticks c.sound
     c.bounded in
-    stays_sound c.config c.tests (noted_tick c) (world.Deliver c.reader.peer c.begins.hears.number)
+    stays_sound c.roster c.tests (noted_tick c) (world.Deliver c.reader.peer c.begins.hears.number)
     (Reported c.begins.hears.report) c.begins.lost_asks c.heard c.begins.hears.step
-    (ended_sound c.config c.old (world.Tick c.writer.peer c.begins.now) c.begins.ticked first.0)
+    (ended_sound c.roster c.old (world.Tick c.writer.peer c.begins.now) c.begins.ticked first.0)
     (world_bounded c.old (world.Tick c.writer.peer c.begins.now) c.begins.ticked first.1)
 
 -- the place of the ACKNACK is not past the next number

@@ -1,12 +1,12 @@
 -- After a round of repair of a writer and a reader the reader has caught up.
 use Rattle.std.specs.Prelude.{nat_lt, if◌then◌else◌}
-use Rattle.std.proofs.Common.{◌≡◌, ◌⊎◌, ℕ, ℤ, ◌+◌, ◌≤◌, ◌&&◌, max, Bool, true, false, nat_le, List, Option, Some, None, Contains, length, map, refl, subst, ap, sym, ◌∙◌, inl, inr, ⊎_elim, arith}
+use Rattle.std.proofs.Common.{◌≡◌, ◌⊎◌, ℕ, ℤ, ◌+◌, ◌≤◌, ◌&&◌, max, Bool, true, false, nat_le, List, Option, Some, Contains, length, map, refl, subst, ap, sym, ◌∙◌, inl, inr, ⊎_elim, arith}
 use Rattle.std.specs.List.{AllByRecursion}
 use Rattle.std.proofs.lemmas.Bool.Decides.{nat_tests}
 use Rattle.std.proofs.lemmas.Int.{ints}
 use Rattle.std.proofs.lemmas.Option.{same_Some}
 use Rattle.dds_base.specs.declared.change.Change.{Change}
-use Rattle.dds_base.specs.declared.config.Config.{Config}
+use Rattle.dds_protocol.specs.Roster.{IsRoster, Roster}
 use Rattle.dds_base.specs.declared.guid.EntityId.{EntityId}
 use Rattle.dds_base.specs.declared.qos.ReaderQos.{ReaderQos}
 use Rattle.dds_base.specs.Places.{coming}
@@ -49,7 +49,6 @@ use Rattle.dds_protocol.proofs.PairTicked.{new_count}
 use Rattle.dds_machine.proofs.Tables.{acknowledged-hits}
 use Rattle.dds_machine.specs.declared.event.WorldEvent.{WorldEvent}
 use Rattle.dds_protocol.specs.Noticing.{world_ended}
-use Rattle.dds_protocol.specs.Roster.{IsRoster}
 use Rattle.dds_protocol.proofs.PairEnded.{rows_ended, seat_ended, standing_ended}
 use Rattle.dds_protocol.proofs.PairBegun.{rows_heard, the_writer, noted_beat, noted_tick, seat_noted, standing_noted, Begun, the_begun, Told, Missed, contacts_of, met, HasRow, writer_is, place_is, pairing, body, ticked_reader, match, started_at, started_on, heard_reader, hears, heard_of, the_last, goes, forward, acknacks, heard_writer, same_answered, writer_heard, row_heard, changes_heard, values_heard, place_heard, packet}
 
@@ -60,20 +59,20 @@ record AskedRound : Type 0 where
   ask : Packet
   ask_sent : Contains first.begins.hears.step.packets ask
   ask_count : ℤ
-  ask_of : HasAckNack first.config ask.bytes first.writer first.reader ask_count
+  ask_of : HasAckNack first.roster ask.bytes first.writer first.reader ask_count
   after_ask : WorldState
-  answers : Delivers first.config first.tests (noted_beat first) first.writer.peer ask 0 after_ask
+  answers : Delivers first.roster first.tests (noted_beat first) first.writer.peer ask 0 after_ask
 
 -- the packet of the ACKNACK, as it is due
 ask_written : (c : Begun) (ask : Packet) → Contains c.begins.hears.step.packets ask
     → IsWrittenOf c.begins.hears.step.dues ask
 ask_written c ask sent =
-    sent_written c.config c.tests (noted_tick c) (world.Deliver c.reader.peer c.begins.hears.number)
+    sent_written c.roster c.tests (noted_tick c) (world.Deliver c.reader.peer c.begins.hears.number)
     (Reported c.begins.hears.report) c.begins.lost_asks c.heard c.begins.hears.step ask sent
 
 -- a reader that sent one was told
 asked_told : (c : Begun) (ask : Packet) (count : ℤ) → Contains c.begins.hears.step.packets ask
-    → HasAckNack c.config ask.bytes c.writer c.reader count → Told c
+    → HasAckNack c.roster ask.bytes c.writer c.reader count → Told c
 asked_told c ask count sent has =
     let d : IsWrittenOf c.begins.hears.step.dues ask = ask_written c ask sent in
     ⊎_elim (λ t. t)
@@ -149,9 +148,9 @@ took c =
     (writer_prefix (pairing c.first)) refl (heard_writer c.first) c.answers.report c.answers.step.dues
     (asked_writer c)
     (ask_new c) (c.first.acknowledged, row_heard c.first) (asked c).writable c.answers.whole
-    (subst (λ (b : List ℕ). TakesPacket c.first.config c.first.writer.peer b
+    (subst (λ (b : List ℕ). TakesPacket c.first.roster c.first.writer.peer b
     (heard_writer c.first) c.answers.report c.answers.step.dues (asked_writer c)) (asked c).bytes
-    (delivered_takes c.first.config c.first.tests
+    (delivered_takes c.first.roster c.first.tests
     (noted_beat c.first) c.first.writer.peer c.ask 0 c.after_ask c.answers))
 
 -- what the writer then has of the reader
@@ -242,7 +241,7 @@ seat_asked c =
     (state_of (peer_at (noted_beat c.first) n))) e (seat_noted c.told))))
     (λ apart.
     subst (λ (x : Peer). Seat (match c.first) c.first.writer c.first.reader.number (state_of x))
-    (sym (delivered_others c.first.config c.first.tests
+    (sym (delivered_others c.first.roster c.first.tests
     (noted_beat c.first) c.first.writer.peer c.ask 0 c.after_ask c.answers c.first.reader.peer apart))
     (seat_noted c.told))
     (number_or_not c.first.reader.peer c.first.writer.peer)
@@ -258,7 +257,7 @@ standing_asked c =
     (took c) c.first.writer c.first.reader.number))
     (λ apart.
     ap (λ (x : Peer). standing_of (state_of x) c.first.writer c.first.reader.number)
-    (delivered_others c.first.config c.first.tests
+    (delivered_others c.first.roster c.first.tests
     (noted_beat c.first) c.first.writer.peer c.ask 0 c.after_ask c.answers c.first.reader.peer apart))
     (number_or_not c.first.reader.peer c.first.writer.peer)
     ∙ standing_noted c.first
@@ -294,14 +293,14 @@ record Round : Type 0 where
   given : AskedRound
   answered : (contacts_of given.first given.first.writer.number given.first.reader).silent ≡ false
   new : WorldState
-  repairs : DeliversAll given.first.config given.first.tests
+  repairs : DeliversAll given.first.roster given.first.tests
       (noted_ask given) given.first.reader.peer given.answers.step.packets new
 
 repaired : (c : Round) → Repaired (pairing c.given.first) (match c.given.first) (took c.given).takes.groups
     (noted_ask c.given) c.new
 repaired c =
     answers_delivered (pairing c.given.first) c.given.first.tests (match c.given.first) (entity_of c.given)
-    (reader_entities c.given.first.config (reader_prefix (pairing c.given.first))
+    (reader_entities c.given.first.roster (reader_prefix (pairing c.given.first))
     (reader_prefix (pairing c.given.first))
     (entity_of c.given) c.given.first.pair.reader_entity c.given.first.reader
     (took c.given).is.from c.given.first.pair.is_reader)
@@ -313,7 +312,7 @@ repaired c =
     (length (writer_changes (there_after c.given)))))) (noted_ask c.given) c.new
     (seat_ended (noted_beat c.given.first) (ask_event c.given) c.given.after_ask c.given.first.reader.peer
     (match c.given.first) c.given.first.writer c.given.first.reader.number (seat_asked c.given))
-    (subst (λ (ps : List Packet). DeliversAll c.given.first.config c.given.first.tests
+    (subst (λ (ps : List Packet). DeliversAll c.given.first.roster c.given.first.tests
     (noted_ask c.given) c.given.first.reader.peer ps c.new) (sent_all c.given) c.repairs)
 
 -- ---- the window
@@ -460,13 +459,13 @@ few_packets c =
     omega (arith, few, sent, posts, dues)
 
 -- a round, but for its answers, with what it rests on
-the_asked : (config : Config) (tests : AllTests) (writer reader : Endpoint) (place acknowledged : ℕ)
-    (old after : WorldState) → IsRoster config.peers → Sound config old → HasUsedCounts config old
-    → IsBounded (machine_of old) → IsPair config writer reader → StandsAt old writer reader place acknowledged
-    → AsksInRound config tests writer reader old after → AskedRound
-the_asked config tests writer reader place acknowledged old after checked sound used bounded pair stands asks =
+the_asked : (roster : Roster) (tests : AllTests) (writer reader : Endpoint) (place acknowledged : ℕ)
+    (old after : WorldState) → IsRoster roster → Sound roster old → HasUsedCounts roster old
+    → IsBounded (machine_of old) → IsPair roster writer reader → StandsAt old writer reader place acknowledged
+    → AsksInRound roster tests writer reader old after → AskedRound
+the_asked roster tests writer reader place acknowledged old after checked sound used bounded pair stands asks =
     let first : Begun =
-    the_begun config tests writer reader place acknowledged old asks.heard checked sound used bounded pair stands
+    the_begun roster tests writer reader place acknowledged old asks.heard checked sound used bounded pair stands
     asks.begins in
     record {
       first = first;
@@ -479,30 +478,30 @@ the_asked config tests writer reader place acknowledged old after checked sound 
       answers = asks.answers;
     }
 
-pub pair_catches_up : (config : Config) (tests : AllTests) (writer reader : Endpoint) (place acknowledged : ℕ)
-    (old new : WorldState) → IsRoster config.peers → Sound config old → HasUsedCounts config old
-    → IsBounded (machine_of old) → IsPair config writer reader → StandsAt old writer reader place acknowledged
+pub pair_catches_up : (roster : Roster) (tests : AllTests) (writer reader : Endpoint) (place acknowledged : ℕ)
+    (old new : WorldState) → IsRoster roster → Sound roster old → HasUsedCounts roster old
+    → IsBounded (machine_of old) → IsPair roster writer reader → StandsAt old writer reader place acknowledged
     → ((peer_at old writer.peer).known.answered writer.number reader).silent ≡ false
-    → IsRepairRound config tests writer reader old new
+    → IsRepairRound roster tests writer reader old new
     → HasCaughtUp new writer reader place (length (writer_changes (writer_at (machine_of old) writer)))
 unfolding the_asked
-pair_catches_up config tests writer reader place acknowledged old new checked sound used bounded pair stands spoken
+pair_catches_up roster tests writer reader place acknowledged old new checked sound used bounded pair stands spoken
     round =
     round_catches_up (record {
       given =
-          the_asked config tests writer reader place acknowledged old round.asked checked sound used bounded pair stands
+          the_asked roster tests writer reader place acknowledged old round.asked checked sound used bounded pair stands
           round.asks;
       answered = spoken;
       new = new;
       repairs = round.repairs;
     })
 
-pub answers_are_few : (config : Config) (tests : AllTests) (writer reader : Endpoint) (place acknowledged : ℕ)
-    (old after : WorldState) → IsRoster config.peers → Sound config old → HasUsedCounts config old
-    → IsBounded (machine_of old) → IsPair config writer reader → StandsAt old writer reader place acknowledged
-    → (asks : AsksInRound config tests writer reader old after)
+pub answers_are_few : (roster : Roster) (tests : AllTests) (writer reader : Endpoint) (place acknowledged : ℕ)
+    (old after : WorldState) → IsRoster roster → Sound roster old → HasUsedCounts roster old
+    → IsBounded (machine_of old) → IsPair roster writer reader → StandsAt old writer reader place acknowledged
+    → (asks : AsksInRound roster tests writer reader old after)
     → length asks.answers.step.packets ≤ packets_for (writer_at (machine_of old) writer).max_value
 unfolding the_asked
-answers_are_few config tests writer reader place acknowledged old after checked sound used bounded pair stands asks =
+answers_are_few roster tests writer reader place acknowledged old after checked sound used bounded pair stands asks =
     few_packets
-    (the_asked config tests writer reader place acknowledged old after checked sound used bounded pair stands asks)
+    (the_asked roster tests writer reader place acknowledged old after checked sound used bounded pair stands asks)

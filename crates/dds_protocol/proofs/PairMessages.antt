@@ -24,7 +24,6 @@ use Rattle.dds_machine.specs.declared.reply.Move.{Move}
 use Rattle.dds_machine.specs.declared.reply.Report.{Report}
 use Rattle.dds_machine.specs.Part.{own_writer}
 use Rattle.dds_protocol.specs.Claims.{Receiver, after_submessage, is_for, stamp_of, IsToReliable}
-use Rattle.dds_protocol.specs.Receipt.{prefix_of}
 use Rattle.dds_protocol.specs.DueMessages.{Due, data_of, submessages_of, answer_message}
 use Rattle.dds_protocol.specs.Protocol.{State, InTurn, ReaderTakes, is_taken_up, Takes, FollowsMessage, TakesPacket}
 use Rattle.dds_protocol.specs.Backed.{reader_at}
@@ -57,7 +56,7 @@ answered_more m w r a rest old mid new one k h =
 -- a reader's turn at a submessage for readers
 turn_at : (c : Host) (at : Receiver) (s : Submessage) (m : Match) (w : Endpoint) (r : ℕ) (old : State)
     (made : List Move) (dues : List Due) (new : State) → Seat m w r old
-    → InTurn (ReaderTakes c.config c.own c.peer at s) (numbers_from 1 (length old.part.rtps.readers)) old made dues new
+    → InTurn (ReaderTakes c.roster c.own c.peer at s) (numbers_from 1 (length old.part.rtps.readers)) old made dues new
     → TurnOf c at s r old dues new
 turn_at c at s m w r old made dues new seat h =
     let low = seat.rows.0 in let high = seat.rows.1 in turn_of c at s r 1
@@ -65,9 +64,9 @@ turn_at c at s m w r old made dues new seat h =
 
 -- a DATA is taken as the answer to its number
 data_answers : (c : Host) (at : Receiver) (d : DataBody) (m : Match) (w : Endpoint) (r : ℕ)
-    → IsToReliable c.config c.own at d.reader_id d.writer_id w (reader_at c.peer r)
+    → IsToReliable c.roster c.own at d.reader_id d.writer_id w (reader_at c.peer r)
     → (old : State) (made : List Move) (dues : List Due) (mid : State) → Seat m w r old
-    → Takes c.config c.own c.peer at (Data d) old made dues mid
+    → Takes c.roster c.own c.peer at (Data d) old made dues mid
     → MovesBy m w r (with_data d.writer_sn (change_in d.content at.timestamp)) old mid × Keeps old mid
 data_answers c at d m w r to old made dues mid s h =
     let turn : TurnOf c at (Data d) r old dues mid = turn_at c at (Data d) m w r old made dues mid s h in
@@ -80,9 +79,9 @@ data_answers c at d m w r to old made dues mid s h =
     )
 
 gap_answers : (c : Host) (at : Receiver) (g : GapBody) (m : Match) (w : Endpoint) (r : ℕ)
-    → IsToReliable c.config c.own at g.reader_id g.writer_id w (reader_at c.peer r)
+    → IsToReliable c.roster c.own at g.reader_id g.writer_id w (reader_at c.peer r)
     → (old : State) (made : List Move) (dues : List Due) (mid : State) → Seat m w r old
-    → Takes c.config c.own c.peer at (Gap g) old made dues mid
+    → Takes c.roster c.own c.peer at (Gap g) old made dues mid
     → MovesBy m w r (with_gap g.gap_start g.gap_list) old mid × Keeps old mid
 gap_answers c at g m w r to old made dues mid s h =
     let turn : TurnOf c at (Gap g) r old dues mid = turn_at c at (Gap g) m w r old made dues mid s h in
@@ -96,11 +95,11 @@ gap_answers c at g m w r to old made dues mid s h =
 
 -- an INFO_TS changes nothing of whom a submessage is for
 to_stamped : (c : Host) (at : Receiver) (reader writer : EntityId) (w x : Endpoint) (stamp : Option ℕ)
-    → IsToReliable c.config c.own at reader writer w x
-    → IsToReliable c.config c.own (after_submessage c.own at (InfoTs stamp)) reader writer w x
+    → IsToReliable c.roster c.own at reader writer w x
+    → IsToReliable c.roster c.own (after_submessage c.own at (InfoTs stamp)) reader writer w x
 to_stamped c at reader writer w x stamp to = by (is_for at c.own)
   where
-    by : (b : Bool) → IsToReliable c.config c.own
+    by : (b : Bool) → IsToReliable c.roster c.own
         (if b then record at { timestamp = stamp_of stamp } else at) reader writer w x
     by true =
         record {
@@ -123,16 +122,16 @@ all_of changes reader writer answers = flat_map (submessages_of changes reader w
 abbrev TakesRest : Host → List Change → EntityId → EntityId → Match → Endpoint → ℕ → List Answer → Type 0
 TakesRest c changes reader writer m w r answers =
     (index : ℕ) (at : Receiver) (old : State) (moves : List Move) (dues : List Due) (new : State)
-    → IsToReliable c.config c.own at reader writer w (reader_at c.peer r) → Seat m w r old
-    → FollowsMessage c.config c.own c.peer index at (all_of changes reader writer answers) old moves None dues new
+    → IsToReliable c.roster c.own at reader writer w (reader_at c.peer r) → Seat m w r old
+    → FollowsMessage c.roster c.own c.peer index at (all_of changes reader writer answers) old moves None dues new
     → Answered m w r answers old new
 
 take_data : (c : Host) (changes : List Change) (reader writer : EntityId) (m : Match) (w : Endpoint) (r n : ℕ)
     (rest : List Answer) (change : Change) (o : Option Change) → o ≡ Some change
     → TakesRest c changes reader writer m w r rest
     → (index : ℕ) (at : Receiver) (old : State) (moves : List Move) (dues : List Due) (new : State)
-    → IsToReliable c.config c.own at reader writer w (reader_at c.peer r) → Seat m w r old
-    → FollowsMessage c.config c.own c.peer index at
+    → IsToReliable c.roster c.own at reader writer w (reader_at c.peer r) → Seat m w r old
+    → FollowsMessage c.roster c.own c.peer index at
     (data_of reader writer n o ++ all_of changes reader writer rest) old moves None dues new
     → Answered m w r (AnswersData n ∷ rest) old new
 take_data c changes reader writer m w r n rest change None is later index at old moves dues new to s h = cc
@@ -140,16 +139,16 @@ take_data c changes reader writer m w r n rest change (Some x) is later index at
     let stamp : Option ℕ = Some x.source_timestamp in
     let at' : Receiver = after_submessage c.own at (InfoTs stamp) in
     let body : DataBody = record { reader_id = reader; writer_id = writer; writer_sn = n; content = content_of x } in
-    let to' : IsToReliable c.config c.own at' reader writer w (reader_at c.peer r) =
+    let to' : IsToReliable c.roster c.own at' reader writer w (reader_at c.peer r) =
     to_stamped c at reader writer w (reader_at c.peer r) stamp to in
-    let on : FollowsOn c.config c.own c.peer (index + 1) at'
+    let on : FollowsOn c.roster c.own c.peer (index + 1) at'
     (Data body ∷ all_of changes reader writer rest) old dues new =
-    idle_head c.config c.own c.peer index at (InfoTs stamp)
+    idle_head c.roster c.own c.peer index at (InfoTs stamp)
     (Data body ∷ all_of changes reader writer rest) old moves dues new
-    (λ made first mid k. ts_idle c.config c.own c.peer at stamp old made first mid k) h in
-    let f : TakesFirst c.config c.own c.peer (index + 1) at' (Data body) (all_of changes reader writer rest) old dues
+    (λ made first mid k. ts_idle c.roster c.own c.peer at stamp old made first mid k) h in
+    let f : TakesFirst c.roster c.own c.peer (index + 1) at' (Data body) (all_of changes reader writer rest) old dues
     new =
-    first_head c.config c.own c.peer (index + 1) at' (Data body) (all_of changes reader writer rest) old on.moves dues
+    first_head c.roster c.own c.peer (index + 1) at' (Data body) (all_of changes reader writer rest) old on.moves dues
     new on.follows in
     let one = data_answers c at' body m w r to' old f.made f.first f.mid s f.takes in
     answered_more m w r (AnswersData n) rest old f.mid new (change_in (content_of x) at'.timestamp, one.0.goes) one.1
@@ -158,15 +157,15 @@ take_data c changes reader writer m w r n rest change (Some x) is later index at
 take_gap : (c : Host) (changes : List Change) (reader writer : EntityId) (m : Match) (w : Endpoint) (r first last : ℕ)
     (rest : List Answer) → TakesRest c changes reader writer m w r rest
     → (index : ℕ) (at : Receiver) (old : State) (moves : List Move) (dues : List Due) (new : State)
-    → IsToReliable c.config c.own at reader writer w (reader_at c.peer r) → Seat m w r old
-    → FollowsMessage c.config c.own c.peer index at
+    → IsToReliable c.roster c.own at reader writer w (reader_at c.peer r) → Seat m w r old
+    → FollowsMessage c.roster c.own c.peer index at
     (all_of changes reader writer (AnswersGap first last ∷ rest)) old moves None dues new
     → Answered m w r (AnswersGap first last ∷ rest) old new
 take_gap c changes reader writer m w r first last rest later index at old moves dues new to s h =
     let body : GapBody =
     record { reader_id = reader; writer_id = writer; gap_start = first; gap_list = empty_from (last + 1) } in
-    let f : TakesFirst c.config c.own c.peer index at (Gap body) (all_of changes reader writer rest) old dues new =
-    first_head c.config c.own c.peer index at (Gap body) (all_of changes reader writer rest) old moves dues new h in
+    let f : TakesFirst c.roster c.own c.peer index at (Gap body) (all_of changes reader writer rest) old dues new =
+    first_head c.roster c.own c.peer index at (Gap body) (all_of changes reader writer rest) old moves dues new h in
     let one = gap_answers c at body m w r to old f.made f.first f.mid s f.takes in
     answered_more m w r (AnswersGap first last) rest old f.mid new one.0.goes one.1
     (later (index + 1) at f.mid f.later f.rest new to one.0.seat f.follows)
@@ -187,43 +186,43 @@ takes_answers c changes reader writer m w r (AnswersGap first last ∷ rest) all
     (takes_answers c changes reader writer m w r rest (All-tail (HasChange changes) (AnswersGap first last) rest all))
     index at old moves dues new to s h
 
-pub answers_packet : (c : Host) → c.own ≡ prefix_of c.config c.peer
+pub answers_packet : (c : Host) → c.own ≡ c.roster.prefix c.peer
     → (from to : GuidPrefix) (reader writer : EntityId) (changes : List Change) (answers : List Answer) (m : Match)
     (w : Endpoint) (r : ℕ)
-    → IsToReliable c.config c.own (addressed from to) reader writer w (reader_at c.peer r)
+    → IsToReliable c.roster c.own (addressed from to) reader writer w (reader_at c.peer r)
     → All (HasChange changes) answers
     → (old : State) (report : Report) (dues : List Due) (new : State) → Seat m w r old
     → IsWritable (answer_message from to reader writer changes answers) → report.refused ≡ None
-    → TakesPacket c.config c.peer (spelling_of (answer_message from to reader writer changes answers)) old report
+    → TakesPacket c.roster c.peer (spelling_of (answer_message from to reader writer changes answers)) old report
     dues new
     → Answered m w r answers old new
 answers_packet c own from to reader writer changes answers m w r is all old report dues new s writable whole takes =
-    let on : FollowsOn c.config c.own c.peer 1 (addressed from to) (all_of changes reader writer answers) old dues new =
-    read_addressed c.config c.own c.peer own from to (all_of changes reader writer answers) old report dues new writable
+    let on : FollowsOn c.roster c.own c.peer 1 (addressed from to) (all_of changes reader writer answers) old dues new =
+    read_addressed c.roster c.own c.peer own from to (all_of changes reader writer answers) old report dues new writable
     whole takes in
     takes_answers c changes reader writer m w r answers all 1 (addressed from to) old on.moves dues new is s on.follows
 
 -- ---- an ACKNACK
 
-pub acknack_packet : (c : Asking) → c.host.own ≡ prefix_of c.host.config c.host.peer → (from to : GuidPrefix)
+pub acknack_packet : (c : Asking) → c.host.own ≡ c.host.roster.prefix c.host.peer → (from to : GuidPrefix)
     → c.at ≡ addressed from to
     → (old : State) (report : Report) (dues : List Due) (new : State) → is_taken_up old c.writer c.reader c.body ≡ true
     → HasRow (own_writer old.part c.writer).readers c.reader
     → IsWritable (message_to from to (AckNack c.body ∷ [])) → report.refused ≡ None
-    → TakesPacket c.host.config c.host.peer
+    → TakesPacket c.host.roster c.host.peer
     (spelling_of (message_to from to (AckNack c.body ∷ []))) old report dues new
     → Took c old dues new
 acknack_packet c own from to at old report dues new taken row writable whole takes =
     asked_takes c old last.moves dues new taken row
-    (subst (λ (x : Receiver). Takes c.host.config c.host.own c.host.peer x (AckNack c.body) old last.moves dues new)
+    (subst (λ (x : Receiver). Takes c.host.roster c.host.own c.host.peer x (AckNack c.body) old last.moves dues new)
     (sym at) last.takes)
   where
     h : Host
     h = c.host
 
-    on : FollowsOn h.config h.own h.peer 1 (addressed from to) (AckNack c.body ∷ []) old dues new
+    on : FollowsOn h.roster h.own h.peer 1 (addressed from to) (AckNack c.body ∷ []) old dues new
     on =
-        read_addressed h.config h.own h.peer own from to (AckNack c.body ∷ []) old report dues new writable whole takes
+        read_addressed h.roster h.own h.peer own from to (AckNack c.body ∷ []) old report dues new writable whole takes
 
-    last : TakesLast h.config h.own h.peer (addressed from to) (AckNack c.body) old dues new
-    last = last_head h.config h.own h.peer 1 (addressed from to) (AckNack c.body) old on.moves dues new on.follows
+    last : TakesLast h.roster h.own h.peer (addressed from to) (AckNack c.body) old dues new
+    last = last_head h.roster h.own h.peer 1 (addressed from to) (AckNack c.body) old on.moves dues new on.follows

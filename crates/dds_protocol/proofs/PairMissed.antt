@@ -2,7 +2,7 @@
 use Rattle.std.proofs.Common.{◌≡◌, ◌⊎◌, ℕ, ◌+◌, ◌<◌, ◌≤◌, true, false, nat_le, List, [], Option, Some, None, length, refl, subst, ap, sym, ◌∙◌, inl, inr, ⊎_elim, arith}
 use Rattle.std.specs.Option.{option_map, option_map_or}
 use Rattle.std.proofs.lemmas.Bool.Decides.{nat_tests}
-use Rattle.dds_base.specs.declared.config.Config.{Config}
+use Rattle.dds_protocol.specs.Roster.{Roster}
 use Rattle.dds_base.specs.declared.endpoint.Endpoint.{Endpoint}
 use Rattle.dds_machine.specs.declared.event.WorldEvent.TheVariants as world
 use Rattle.dds_machine.specs.Machine.{part_at, writer_at}
@@ -115,8 +115,8 @@ begun_where_placed rows writer place at begun = by (row_of (λ (p : WriterProxy)
     by (Some row) e =
         ap (λ (x : Option WriterProxy). option_map_or (λ (p : WriterProxy). p.how) x Away) e ∙ begun row e
 
-module _ (config : Config) (old new : WorldState) (writer reader : Endpoint) (place acknowledged : ℕ)
-    (sound : Sound config old) (bounded : IsBounded (machine_of old)) (left : LeavesPair old new writer reader)
+module _ (roster : Roster) (old new : WorldState) (writer reader : Endpoint) (place acknowledged : ℕ)
+    (sound : Sound roster old) (bounded : IsBounded (machine_of old)) (left : LeavesPair old new writer reader)
     (s : StandsAt old writer reader place acknowledged)
     (past : length (writer_changes (writer_at (machine_of old) writer)) < acknowledged) where
   abbrev w : Writer
@@ -157,7 +157,7 @@ module _ (config : Config) (old new : WorldState) (writer reader : Endpoint) (pl
       (closed.begun reader writer))
       (subst (λ (o : Option ℕ). NoLess o (Some place)) s.acknowledged_is
       (subst (λ (o : Option ℕ). NoLess (acknowledged_of w.readers reader) o) s.place_is
-      (acknowledges_no_more config old writer reader sound closed)))
+      (acknowledges_no_more roster old writer reader sound closed)))
 
   -- it is owed nothing, or waits; or it has caught up
   abbrev pub IsOwedNoneOrWaits : Type 0

@@ -1,14 +1,11 @@
 -- What a reader does with the submessages of one of its matched writers: its place goes on as far as it can.
-use Rattle.std.proofs.Common.{◌≡◌, ℕ, ℤ, ◌-◌, ◌≤◌, max, Bool, true, false, List, [], Option, Some, length, slice_get, refl, subst, ap, sym, ◌∙◌, inl, inr, ⊎_elim, arith}
+use Rattle.std.proofs.Common.{◌≡◌, ℕ, ℤ, ◌≤◌, max, Bool, true, false, List, [], Option, Some, length, refl, subst, ap, sym, ◌∙◌, inl, inr, ⊎_elim, arith}
 use Rattle.std.proofs.lemmas.Option.{same_Some}
 use Rattle.dds_base.specs.declared.happening.Happening.{Happening}
 use Rattle.dds_base.specs.declared.qos.ReaderQos.{ReaderQos}
-use Rattle.dds_base.specs.declared.config.Config.{Config}
-use Rattle.dds_base.specs.declared.config.PeerConfig.{PeerConfig}
-use Rattle.dds_base.specs.declared.config.ReaderConfig.{ReaderConfig}
+use Rattle.dds_protocol.specs.Roster.{Roster}
 use Rattle.dds_base.specs.declared.guid.EntityId.{EntityId}
 use Rattle.dds_base.specs.declared.guid.GuidPrefix.{GuidPrefix}
-use Rattle.dds_base.specs.Matched.{is_reliable_reader}
 use Rattle.dds_base.specs.Places.{Match}
 use Rattle.dds_base.specs.Counts.{is_later}
 use Rattle.rtps_reader.specs.declared.step.AckNackDue.{AckNackDue}
@@ -36,11 +33,12 @@ use Rattle.dds_protocol.proofs.Framing.{tracked_here}
 use Rattle.dds_protocol.proofs.InOrder.{publication_kept}
 use Rattle.dds_protocol.proofs.Knowing.{answered_same}
 use Rattle.dds_protocol.proofs.Learning.{way_learns}
-use Rattle.dds_protocol.proofs.OwnGuids.{one_writer}
+use Rattle.dds_protocol.proofs.OneName.{one_writer}
 use Rattle.dds_protocol.proofs.PairTurns.{Host, Keeps}
 use Rattle.dds_protocol.proofs.Ruled.{way_frames}
 use Rattle.dds_protocol.proofs.Ways.{goes_went}
 use Rattle.dds_protocol.proofs.RuledTurns.{SameAt}
+use Rattle.dds_protocol.proofs.KnownRows.{unknown_apart}
 use Rattle.dds_machine.proofs.Tables.{begun-hits, numbered-same, length-with_numbered}
 
 -- what a reader of the peer knows of a writer, and what happened there
@@ -168,28 +166,10 @@ moves_between m w r mark old before after new first last k s h = record {
 
 -- ---- a DATA, or a GAP
 
--- two names of one reader are told of one entry
-pub reader_ends : (config : Config) (p q : GuidPrefix) (d e : EntityId) (r : Endpoint) (x : IsReader config p d r)
-    (y : IsReader config q e r) → x.end ≡ y.end
-reader_ends config p q d e r x y =
-    let peer : x.peer ≡ y.peer = same_Some x.peer y.peer (sym x.at_peer.1 ∙ y.at_peer.1) in
-    let within : slice_get y.peer.readers (r.number - 1) ≡ Some x.end =
-    subst (λ (z : PeerConfig). slice_get z.readers (r.number - 1) ≡ Some x.end) peer x.at_reader.1 in
-    same_Some x.end y.end (sym within ∙ y.at_reader.1)
-
--- they have one entity id
-pub reader_entities : (config : Config) (p q : GuidPrefix) (d e : EntityId) (r : Endpoint) (x : IsReader config p d r)
-    (y : IsReader config q e r) → d ≡ e
-reader_entities config p q d e r x y =
-    sym x.same_entity ∙ (ap (λ (z : ReaderConfig). z.entity) (reader_ends config p q d e r x y) ∙ y.same_entity)
-
--- so it is reliable by any of its names, where it is by one
-reliable_too : (c : Host) (at : Receiver) (reader_id writer_id : EntityId) (w v x : Endpoint)
-    → IsToReliable c.config c.own at reader_id writer_id w x
-    → (is : IsToReader c.config c.own at reader_id writer_id v x) → is_reliable_reader is.to.end ≡ true
-reliable_too c at reader_id writer_id w v x to is =
-    ap (λ (e : ReaderConfig). is_reliable_reader e)
-    (reader_ends c.config c.own c.own is.entity to.is_to.entity x is.to to.is_to.to) ∙ to.reliable
+-- two names of one reader have one entity id
+pub reader_entities : (roster : Roster) (p q : GuidPrefix) (d e : EntityId) (r : Endpoint) → IsReader roster p d r
+    → IsReader roster q e r → d ≡ e
+reader_entities roster p q d e r x y = same_Some d e (sym x.at_reader ∙ y.at_reader)
 
 -- it stands so there, by any name of the writer
 stands_at : {how : Attachment} (m : Match) (w v : Endpoint) (r : ℕ) (s : State) → v ≡ w → SeatAs how m w r s
@@ -197,37 +177,37 @@ stands_at : {how : Attachment} (m : Match) (w v : Endpoint) (r : ℕ) (s : State
 stands_at m w v r s e seat = ap (λ (x : Endpoint). stands_to s x r) e ∙ seat.stands
 
 pub data_moves : (c : Host) (at : Receiver) (d : DataBody) (m : Match) (w : Endpoint) (r : ℕ)
-    → IsToReliable c.config c.own at d.reader_id d.writer_id w (reader_at c.peer r)
+    → IsToReliable c.roster c.own at d.reader_id d.writer_id w (reader_at c.peer r)
     → (old : State) (moves : List Move) (dues : List Due) (new : State) → Seat m w r old
-    → ReaderTakes c.config c.own c.peer at (Data d) r old moves dues new
+    → ReaderTakes c.roster c.own c.peer at (Data d) r old moves dues new
     → MovesBy m w r (with_data d.writer_sn (change_in d.content at.timestamp)) old new
 data_moves c at d m w r to old moves dues new s (inl h) =
     let same : h.0 ≡ w =
-    one_writer c.config at.source_guid_prefix d.writer_id h.0 w c.checked h.1.from to.is_to.from in
-    let reliable = reliable_too c at d.reader_id d.writer_id w h.0 (reader_at c.peer r) to h.1 in
+    one_writer c.roster at.source_guid_prefix d.writer_id h.0 w c.checked h.1.from to.is_to.from in
     goes_by m w r (with_data d.writer_sn (change_in d.content at.timestamp)) old moves new s
     (subst (λ (x : Endpoint). Goes old x r
     (with_data d.writer_sn (change_in d.content at.timestamp) (old.known.tracked x r)) moves new) same
-    (subst (λ (b : Bool). TakesChange b old h.0 r d.writer_sn (change_in d.content at.timestamp) moves new) reliable
-    (subst (λ (a : Attachment). MeetsChange a (is_reliable_reader h.1.to.end) old h.0 r d.writer_sn
-    (change_in d.content at.timestamp) moves new) (stands_at m w h.0 r old same s) h.2.0)))
-data_moves c at d m w r to old moves dues new s (inr h) = absurd (h.0 w to.is_to)
+    (subst (λ (b : Bool). TakesChange b old h.0 r d.writer_sn (change_in d.content at.timestamp) moves new) to.reliable
+    (subst (λ (a : Attachment). MeetsChange a (c.roster.is_reliable (reader_at c.peer r)) old h.0 r d.writer_sn
+    (change_in d.content at.timestamp) moves new) (stands_at m w h.0 r old same s) h.3.0)))
+data_moves c at d m w r to old moves dues new s (inr h) =
+    absurd (unknown_apart (own_proxies old.part r) w (h.0 w to.is_to) (ap (λ (a : Attachment). is_attached a) s.stands))
 
 pub gap_moves : (c : Host) (at : Receiver) (g : GapBody) (m : Match) (w : Endpoint) (r : ℕ)
-    → IsToReliable c.config c.own at g.reader_id g.writer_id w (reader_at c.peer r)
+    → IsToReliable c.roster c.own at g.reader_id g.writer_id w (reader_at c.peer r)
     → (old : State) (moves : List Move) (dues : List Due) (new : State) → Seat m w r old
-    → ReaderTakes c.config c.own c.peer at (Gap g) r old moves dues new
+    → ReaderTakes c.roster c.own c.peer at (Gap g) r old moves dues new
     → MovesBy m w r (with_gap g.gap_start g.gap_list) old new
 gap_moves c at g m w r to old moves dues new s (inl h) =
     let same : h.0 ≡ w =
-    one_writer c.config at.source_guid_prefix g.writer_id h.0 w c.checked h.1.from to.is_to.from in
-    let reliable = reliable_too c at g.reader_id g.writer_id w h.0 (reader_at c.peer r) to h.1 in
+    one_writer c.roster at.source_guid_prefix g.writer_id h.0 w c.checked h.1.from to.is_to.from in
     goes_by m w r (with_gap g.gap_start g.gap_list) old moves new s
     (subst (λ (x : Endpoint). Goes old x r (with_gap g.gap_start g.gap_list (old.known.tracked x r)) moves new) same
-    (subst (λ (b : Bool). TakesGap b old h.0 r g moves new) reliable
-    (subst (λ (a : Attachment). MeetsGap a (is_reliable_reader h.1.to.end) old h.0 r g moves new)
-    (stands_at m w h.0 r old same s) h.2.0)))
-gap_moves c at g m w r to old moves dues new s (inr h) = absurd (h.0 w to.is_to)
+    (subst (λ (b : Bool). TakesGap b old h.0 r g moves new) to.reliable
+    (subst (λ (a : Attachment). MeetsGap a (c.roster.is_reliable (reader_at c.peer r)) old h.0 r g moves new)
+    (stands_at m w h.0 r old same s) h.3.0)))
+gap_moves c at g m w r to old moves dues new s (inr h) =
+    absurd (unknown_apart (own_proxies old.part r) w (h.0 w to.is_to) (ap (λ (a : Attachment). is_attached a) s.stands))
 
 -- ---- a HEARTBEAT
 
@@ -293,7 +273,7 @@ started_as Begun m w r number old moves new met s h =
 -- the reader took it: its place began, if it waited, and went on, and this ACKNACK is due, if any is
 pub record HearsBy (c : Host) (at : Receiver) (h : HeartbeatBody) (m : Match) (w : Endpoint) (r : ℕ) (old : State)
     (dues : List Due) (new : State) : Type 0 where
-  pub is : IsToReader c.config c.own at h.reader_id h.writer_id w (reader_at c.peer r)
+  pub is : IsToReader c.roster c.own at h.reader_id h.writer_id w (reader_at c.peer r)
   pub started : Standing
   pub further : (old.known.tracked w r).place ≤ started.tracked.place
   pub acknacks : started.tracked.acknacks ≡ (old.known.tracked w r).acknacks
@@ -315,7 +295,7 @@ not_asserting true none old w r count moves new h = cc
 
 heartbeat_heard : (how : Attachment) → is_attached how ≡ true
     → (c : Host) (at : Receiver) (h : HeartbeatBody) (m : Match) (w : Endpoint) (r : ℕ)
-    → h.liveliness_flag ≡ false → (is : IsToReader c.config c.own at h.reader_id h.writer_id w (reader_at c.peer r))
+    → h.liveliness_flag ≡ false → (is : IsToReader c.roster c.own at h.reader_id h.writer_id w (reader_at c.peer r))
     → (old : State) (moves : List Move) (dues : List Due) (new : State) → SeatAs how m w r old
     → TakesHeartbeat c.own at old w r is.entity h moves dues new → HearsBy c at h m w r old dues new
 heartbeat_heard how met c at h m w r quiet is old moves dues new s k = record {
@@ -375,10 +355,10 @@ may_take Begun met own at old w r entity h moves dues new k = k
 -- one with a new count, and without flag L, is taken
 pub heartbeat_moves : (how : Attachment) → is_attached how ≡ true
     → (c : Host) (at : Receiver) (h : HeartbeatBody) (m : Match) (w : Endpoint) (r : ℕ)
-    → h.liveliness_flag ≡ false → IsToReliable c.config c.own at h.reader_id h.writer_id w (reader_at c.peer r)
+    → h.liveliness_flag ≡ false → IsToReliable c.roster c.own at h.reader_id h.writer_id w (reader_at c.peer r)
     → (old : State) (moves : List Move) (dues : List Due) (new : State) → SeatAs how m w r old
     → is_later (old.known.tracked w r).count h.count ≡ true
-    → ReaderTakes c.config c.own c.peer at (Heartbeat h) r old moves dues new → HearsBy c at h m w r old dues new
+    → ReaderTakes c.roster c.own c.peer at (Heartbeat h) r old moves dues new → HearsBy c at h m w r old dues new
 heartbeat_moves how met c at h m w r quiet to old moves dues new s later (inl k) =
     ⊎_elim (λ t. at_writer k.0 same k.1 t)
     (λ n. let no : is_later (old.known.tracked w r).count h.count
@@ -388,19 +368,21 @@ heartbeat_moves how met c at h m w r quiet to old moves dues new s later (inl k)
     (subst (λ (a : Attachment). MeetsHeartbeat a true c.own at old k.0 r k.1.entity h moves dues new)
     (stands_at m w k.0 r old same s)
     (subst (λ (b : Bool). MeetsHeartbeat (stands_to old k.0 r) b c.own at old k.0 r k.1.entity h moves dues new)
-    (reliable_too c at h.reader_id h.writer_id w k.0 (reader_at c.peer r) to k.1) k.2)))
+    to.reliable k.3)))
   where
     same : k.0 ≡ w
-    same = one_writer c.config at.source_guid_prefix h.writer_id k.0 w c.checked k.1.from to.is_to.from
+    same = one_writer c.roster at.source_guid_prefix h.writer_id k.0 w c.checked k.1.from to.is_to.from
 
     at_writer : (v : Endpoint) → v ≡ w
-        → (is : IsToReader c.config c.own at h.reader_id h.writer_id v (reader_at c.peer r))
+        → (is : IsToReader c.roster c.own at h.reader_id h.writer_id v (reader_at c.peer r))
         → TakesHeartbeat c.own at old v r is.entity h moves dues new → HearsBy c at h m w r old dues new
     at_writer v e is t =
         subst (λ (x : Endpoint). HearsBy c at h m x r old dues new) e
         (heartbeat_heard how met c at h m v r quiet is old moves dues new
         (subst (λ (x : Endpoint). SeatAs how m x r old) (sym e) s) t)
-heartbeat_moves how met c at h m w r quiet to old moves dues new s later (inr k) = absurd (k.0 w to.is_to)
+heartbeat_moves how met c at h m w r quiet to old moves dues new s later (inr k) =
+    absurd (unknown_apart (own_proxies old.part r) w (k.0 w to.is_to)
+    (ap (λ (a : Attachment). is_attached a) s.stands ∙ met))
 
 -- the same, whatever other readers did before and after
 pub hears_between : {how : Attachment} (c : Host) (at : Receiver) (h : HeartbeatBody) (m : Match) (w : Endpoint) (r : ℕ)

@@ -5,7 +5,6 @@ use Rattle.std.proofs.lemmas.List.Elements.{Contains-append_cases, Contains-appe
 use Rattle.dds_base.specs.declared.endpoint.Endpoint.{Endpoint}
 use Rattle.dds_base.specs.declared.guid.EntityId.{EntityId}
 use Rattle.dds_base.specs.Counts.{is_later}
-use Rattle.dds_base.specs.Matched.{is_reliable_reader}
 use Rattle.dds_base.specs.Places.{Match}
 use Rattle.rtps_wire.specs.declared.heartbeat.Heartbeat.{Heartbeat as HeartbeatBody}
 use Rattle.rtps_wire.specs.declared.submessage.Submessage.{Submessage}
@@ -19,9 +18,8 @@ use Rattle.dds_protocol.specs.Claims.{Receiver, Names, IsReader, IsToReader, IsT
 use Rattle.dds_protocol.specs.DueMessages.{Due}
 use Rattle.dds_protocol.specs.Protocol.{State, Idles, TakesHeartbeat, HearsAlone, ReaderTakes, Takes, FollowsMessage, heard_as, stands_to}
 use Rattle.dds_protocol.proofs.BeatsTo.{AreBeats, beats_weaker}
-use Rattle.dds_protocol.proofs.Finding.{names_or_not}
 use Rattle.dds_protocol.proofs.Knowing.{answered_same}
-use Rattle.dds_protocol.proofs.OwnGuids.{one_writer}
+use Rattle.dds_protocol.proofs.OneName.{one_writer, names_or_not}
 use Rattle.dds_protocol.proofs.PairPackets.{TakesFirst, first_head}
 use Rattle.dds_protocol.proofs.PairReader.{has_as, SeatAs, seat_kept, HearsBy, heartbeat_moves, hears_between, reader_entities}
 use Rattle.dds_protocol.proofs.PairTurns.{Host, Keeps, keeps_same, keeps_on, at_same, OfOther, Spares, spares_idle, spares_on, TurnOf, turns_keep, turn_of}
@@ -33,7 +31,7 @@ use Rattle.dds_protocol.proofs.Ways.{met_heartbeat}
 
 -- it is to no reader of this number, whatever writer it is of
 abbrev pub IsToOthers : Host → Receiver → ℕ → HeartbeatBody → Type 0
-IsToOthers c at r h = (w : Endpoint) → IsToReader c.config c.own at h.reader_id h.writer_id w (reader_at c.peer r) → ⊥
+IsToOthers c at r h = (w : Endpoint) → IsToReader c.roster c.own at h.reader_id h.writer_id w (reader_at c.peer r) → ⊥
 
 -- of these this is the first that names the reader of this number
 abbrev pub IsFirstTo : Host → Receiver → ℕ → HeartbeatBody → List Submessage → Type 0
@@ -54,15 +52,15 @@ abbrev pub IsUnnamed : EntityId → HeartbeatBody → Type 0
 IsUnnamed entity h = Names h.reader_id entity → ⊥
 
 -- a reader is named by one entity id
-pub not_named : (c : Host) (at : Receiver) (r : ℕ) (entity : EntityId) → IsReader c.config c.own entity (reader_at c.peer r)
+pub not_named : (c : Host) (at : Receiver) (r : ℕ) (entity : EntityId) → IsReader c.roster c.own entity (reader_at c.peer r)
     → (h : HeartbeatBody) → IsUnnamed entity h → IsToOthers c at r h
 not_named c at r entity is h other w to =
     other (subst (λ (e : EntityId). Names h.reader_id e)
-    (reader_entities c.config c.own c.own to.entity entity (reader_at c.peer r) to.to is) to.named)
+    (reader_entities c.roster c.own c.own to.entity entity (reader_at c.peer r) to.to is) to.named)
 
 -- one of them is the first that names it, or none does
 pub first_or_none : (c : Host) (at : Receiver) (r : ℕ) (entity : EntityId)
-    → IsReader c.config c.own entity (reader_at c.peer r) → (P : HeartbeatBody → Type 0) (ss : List Submessage)
+    → IsReader c.roster c.own entity (reader_at c.peer r) → (P : HeartbeatBody → Type 0) (ss : List Submessage)
     → AreBeats P ss
     → NamesFirst c at r entity P ss ⊎ AreBeats (IsUnnamed entity) ss
 first_or_none c at r entity is P [] all = inr tt
@@ -88,7 +86,7 @@ still_there old new r k there = has_as old.part.rtps.readers new.part.rtps.reade
 -- the reader took one with as great a count, of whatever writer it is to it
 abbrev pub IsPassed : Host → Receiver → ℕ → State → HeartbeatBody → Type 0
 IsPassed c at r s h =
-    (w : Endpoint) → IsToReader c.config c.own at h.reader_id h.writer_id w (reader_at c.peer r)
+    (w : Endpoint) → IsToReader c.roster c.own at h.reader_id h.writer_id w (reader_at c.peer r)
     → is_later (s.known.tracked w r).count h.count ≡ false
 
 still_passed : (c : Host) (at : Receiver) (r : ℕ) (old new : State) → SameAt old new r → (h : HeartbeatBody)
@@ -97,12 +95,12 @@ still_passed c at r old new same h passed w to = ap (λ t. is_later t.count h.co
 
 reader_idles : (c : Host) (at : Receiver) (h : HeartbeatBody) (r : ℕ) (old : State) (moves : List Move)
     (dues : List Due) (new : State) → IsPassed c at r old h
-    → ReaderTakes c.config c.own c.peer at (Heartbeat h) r old moves dues new → Idles old moves dues new
+    → ReaderTakes c.roster c.own c.peer at (Heartbeat h) r old moves dues new → Idles old moves dues new
 reader_idles c at h r old moves dues new passed (inr k) = k.1
 reader_idles c at h r old moves dues new passed (inl k) =
-    by (is_reliable_reader k.1.to.end)
-    (met_heartbeat (stands_to old k.0 r) (is_reliable_reader k.1.to.end) c.own at old k.0 r k.1.entity h moves dues new
-    k.2)
+    by (c.roster.is_reliable (reader_at c.peer r))
+    (met_heartbeat (stands_to old k.0 r) (c.roster.is_reliable (reader_at c.peer r)) c.own at old k.0 r k.1.entity h moves dues new
+    k.3)
   where
     not_later : is_later (old.known.tracked k.0 r).count h.count ≡ true → Idles old moves dues new
     not_later later = let no = passed k.0 k.1 in absurd cc
@@ -119,7 +117,7 @@ reader_idles c at h r old moves dues new passed (inl k) =
 -- one is taken up by the peer
 one_passed : (c : Host) (at : Receiver) (h : HeartbeatBody) (r : ℕ) (old : State) (moves : List Move) (dues : List Due)
     (new : State) → HasNumber old.part.rtps.readers r → IsPassed c at r old h
-    → Takes c.config c.own c.peer at (Heartbeat h) old moves dues new → Spares c r old dues new
+    → Takes c.roster c.own c.peer at (Heartbeat h) old moves dues new → Spares c r old dues new
 one_passed c at h r old moves dues new there passed takes = record {
   same =
       same_on old t.before new r t.same_before
@@ -145,11 +143,11 @@ one_passed c at h r old moves dues new there passed takes = record {
 -- they all are
 pub beats_passed : (c : Host) (at : Receiver) (r index : ℕ) (ss : List Submessage) (old : State) (moves : List Move)
     (dues : List Due) (new : State) → HasNumber old.part.rtps.readers r → AreBeats (IsPassed c at r old) ss
-    → FollowsMessage c.config c.own c.peer index at ss old moves None dues new → Spares c r old dues new
+    → FollowsMessage c.roster c.own c.peer index at ss old moves None dues new → Spares c r old dues new
 beats_passed c at r index [] old moves dues new there all h = spares_idle c r old moves dues new h.1
 beats_passed c at r index (Heartbeat k ∷ ss) old moves dues new there all h =
-    let f : TakesFirst c.config c.own c.peer index at (Heartbeat k) ss old dues new =
-    first_head c.config c.own c.peer index at (Heartbeat k) ss old moves dues new h in
+    let f : TakesFirst c.roster c.own c.peer index at (Heartbeat k) ss old dues new =
+    first_head c.roster c.own c.peer index at (Heartbeat k) ss old moves dues new h in
     let one : Spares c r old f.first f.mid = one_passed c at k r old f.made f.first f.mid there all.0 f.takes in
     spares_on c r old f.mid new f.first f.rest dues f.all one
     (beats_passed c at r (index + 1) ss f.mid f.later f.rest new (still_there old f.mid r one.keeps there)
@@ -173,7 +171,7 @@ abbrev Hears : Attachment → Host → Receiver → HeartbeatBody → Match → 
 Hears how c at h m w r ss =
     (index : ℕ) (old : State) (moves : List Move) (dues : List Due) (new : State) → SeatAs how m w r old
     → is_later (old.known.tracked w r).count h.count ≡ true
-    → FollowsMessage c.config c.own c.peer index at ss old moves None dues new → HeardPacket c at h m w r old dues new
+    → FollowsMessage c.roster c.own c.peer index at ss old moves None dues new → HeardPacket c at h m w r old dues new
 
 -- the count of a HEARTBEAT that was heard is taken
 count_heard : (c : Host) (at : Receiver) (h : HeartbeatBody) (m : Match) (w : Endpoint) (r : ℕ) (old : State)
@@ -184,10 +182,10 @@ count_heard c at h m w r old dues new x =
 
 heard_one : (how : Attachment) → is_attached how ≡ true
     → (c : Host) (at : Receiver) (h : HeartbeatBody) (m : Match) (w : Endpoint) (r : ℕ) → h.liveliness_flag ≡ false
-    → IsToReliable c.config c.own at h.reader_id h.writer_id w (reader_at c.peer r)
+    → IsToReliable c.roster c.own at h.reader_id h.writer_id w (reader_at c.peer r)
     → (old : State) (moves : List Move) (dues : List Due) (new : State) → SeatAs how m w r old
     → is_later (old.known.tracked w r).count h.count ≡ true
-    → Takes c.config c.own c.peer at (Heartbeat h) old moves dues new → HeardPacket c at h m w r old dues new
+    → Takes c.roster c.own c.peer at (Heartbeat h) old moves dues new → HeardPacket c at h m w r old dues new
 heard_one how met c at h m w r quiet is old moves dues new s later takes = record {
   due = turn.due;
   hears =
@@ -249,12 +247,12 @@ IsBeside h k = (k.writer_id ≡ h.writer_id) × (k.count ≡ h.count)
 
 -- such a one is no longer new
 beside_passed : (c : Host) (at : Receiver) (h : HeartbeatBody) (w : Endpoint) (r : ℕ) (new : State)
-    → IsToReliable c.config c.own at h.reader_id h.writer_id w (reader_at c.peer r)
+    → IsToReliable c.roster c.own at h.reader_id h.writer_id w (reader_at c.peer r)
     → (new.known.tracked w r).count ≡ Some h.count → (k : HeartbeatBody) → IsBeside h k → IsPassed c at r new k
 beside_passed c at h w r new is counted k beside v to =
     let same : v ≡ w =
-    one_writer c.config at.source_guid_prefix h.writer_id v w c.checked
-    (subst (λ (i : EntityId). IsWriter c.config at.source_guid_prefix i v) beside.0 to.from) is.is_to.from in
+    one_writer c.roster at.source_guid_prefix h.writer_id v w c.checked
+    (subst (λ (i : EntityId). IsWriter c.roster at.source_guid_prefix i v) beside.0 to.from) is.is_to.from in
     ap (λ (x : Endpoint). is_later (new.known.tracked x r).count k.count) same
     ∙ (ap (λ (n : ℤ). is_later (new.known.tracked w r).count n) beside.1
     ∙ (ap (λ (o : Option ℤ). is_later o h.count) counted ∙ not_later_than_itself h.count))
@@ -262,15 +260,15 @@ beside_passed c at h w r new is counted k beside v to =
 -- Of HEARTBEATs of one writer and one count the reader hears the first that names it.
 pub hears_first : (how : Attachment) → is_attached how ≡ true
     → (c : Host) (at : Receiver) (h : HeartbeatBody) (m : Match) (w : Endpoint) (r : ℕ) → h.liveliness_flag ≡ false
-    → IsToReliable c.config c.own at h.reader_id h.writer_id w (reader_at c.peer r)
+    → IsToReliable c.roster c.own at h.reader_id h.writer_id w (reader_at c.peer r)
     → (ss : List Submessage) → AreBeats (IsBeside h) ss → IsFirstTo c at r h ss → Hears how c at h m w r ss
 hears_first how met c at h m w r quiet is [] all first index old moves dues new s later f = absurd first
 hears_first how met c at h m w r quiet is (Heartbeat k ∷ ss) all (inl same) index old moves dues new s later follows =
-    let f : TakesFirst c.config c.own c.peer index at (Heartbeat k) ss old dues new =
-    first_head c.config c.own c.peer index at (Heartbeat k) ss old moves dues new follows in
+    let f : TakesFirst c.roster c.own c.peer index at (Heartbeat k) ss old dues new =
+    first_head c.roster c.own c.peer index at (Heartbeat k) ss old moves dues new follows in
     let one : HeardPacket c at h m w r old f.first f.mid =
     heard_one how met c at h m w r quiet is old f.made f.first f.mid s later
-    (subst (λ (b : HeartbeatBody). Takes c.config c.own c.peer at (Heartbeat b) old f.made f.first f.mid) same
+    (subst (λ (b : HeartbeatBody). Takes c.roster c.own c.peer at (Heartbeat b) old f.made f.first f.mid) same
     f.takes) in
     before_others c at h m w r old f.mid new f.first f.rest dues f.all s one
     (beats_passed c at r (index + 1) ss f.mid f.later f.rest new (still_there old f.mid r one.keeps s.rows)
@@ -279,8 +277,8 @@ hears_first how met c at h m w r quiet is (Heartbeat k ∷ ss) all (inl same) in
     f.follows)
 hears_first how met c at h m w r quiet is (Heartbeat k ∷ ss) all (inr first) index old moves dues new s later
     follows =
-    let f : TakesFirst c.config c.own c.peer index at (Heartbeat k) ss old dues new =
-    first_head c.config c.own c.peer index at (Heartbeat k) ss old moves dues new follows in
+    let f : TakesFirst c.roster c.own c.peer index at (Heartbeat k) ss old dues new =
+    first_head c.roster c.own c.peer index at (Heartbeat k) ss old moves dues new follows in
     let one : Spares c r old f.first f.mid =
     one_passed c at k r old f.made f.first f.mid s.rows (λ v to. absurd (first.0 v to)) f.takes in
     after_others c at h m w r old f.mid new f.first f.rest dues f.all s one

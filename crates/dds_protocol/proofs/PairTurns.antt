@@ -2,14 +2,13 @@
 use Rattle.std.proofs.Common.{◌≡◌, ◌⊎◌, ℕ, ℤ, zero, suc, ◌+◌, ◌<◌, ◌≤◌, Bool, true, false, List, [], ◌++◌, Option, Some, None, Contains, length, refl, subst, ap, sym, ◌∙◌, inl, inr, ⊎_elim, arith, max}
 use Rattle.std.proofs.lemmas.Bool.{cases_lt}
 use Rattle.std.proofs.lemmas.List.Elements.{Contains-append_cases, Contains-append_left, Contains-append_right}
-use Rattle.dds_base.specs.declared.config.Config.{Config}
+use Rattle.dds_protocol.specs.Roster.{IsRoster, Roster}
 use Rattle.dds_base.specs.declared.guid.EntityId.{EntityId}
 use Rattle.dds_base.specs.declared.guid.GuidPrefix.{GuidPrefix}
 use Rattle.dds_base.specs.Kept.{numbers_from}
 use Rattle.rtps_reader.specs.declared.step.AckNackDue.{AckNackDue}
 use Rattle.dds_base.specs.declared.happening.Happening.{Happening}
 use Rattle.dds_base.specs.declared.happening.PassedRun.{PassedRun}
-use Rattle.dds_base.specs.Matched.{is_reliable_reader}
 use Rattle.dds_base.specs.Places.{Match}
 use Rattle.rtps_reader.specs.Tracked.{Tracked}
 use Rattle.rtps_reader.specs.Answer.{answered}
@@ -29,7 +28,6 @@ use Rattle.dds_protocol.specs.DueMessages.{Due, acknack_message, acknacks_due}
 use Rattle.dds_protocol.specs.Protocol.{HearsAlone, Starts, StartsAt, State, stands_to, InTurn, GoesBy, heard_as, Asserting, TakesHeartbeat, Idles, ReaderTakes, with_tracked}
 use Rattle.dds_protocol.specs.Backed.{reader_at}
 use Rattle.dds_protocol.specs.Fresh.{HasAckNack}
-use Rattle.dds_protocol.specs.Roster.{IsRoster}
 use Rattle.dds_protocol.proofs.Composed.{is_alone}
 use Rattle.dds_protocol.proofs.CountsWritten.{one_ask, one_sought}
 use Rattle.dds_protocol.proofs.DuesAcknacks.{ask_body, answer_names}
@@ -43,8 +41,8 @@ use Rattle.dds_protocol.proofs.Turns.{in_turn}
 
 -- a peer of a configuration
 pub record Host : Type 0 where
-  pub config : Config
-  pub checked : IsRoster config.peers
+  pub roster : Roster
+  pub checked : IsRoster roster
   pub peer : ℕ
   pub own : GuidPrefix
 
@@ -170,69 +168,69 @@ heartbeat_leaves own at old w r entity h moves dues new k =
     (known_leaves k.there w r (answered k.answer (k.there.known.tracked w r))))
 
 -- what a reader does leaves all else at the peer
-pub reader_leaves : (config : Config) (own : GuidPrefix) (peer : ℕ) (at : Receiver) (s : Submessage) (k : ℕ)
+pub reader_leaves : (roster : Roster) (own : GuidPrefix) (peer : ℕ) (at : Receiver) (s : Submessage) (k : ℕ)
     (old : State) (moves : List Move) (dues : List Due) (new : State)
-    → ReaderTakes config own peer at s k old moves dues new → Leaves old k new
-reader_leaves config own peer at (Data d) k old moves dues new (inl h) =
+    → ReaderTakes roster own peer at s k old moves dues new → Leaves old k new
+reader_leaves roster own peer at (Data d) k old moves dues new (inl h) =
     ⊎_elim
     (λ takes. way_leaves old h.0 k moves new
-    (change_went (is_reliable_reader h.1.to.end) old h.0 k d.writer_sn (change_in d.content at.timestamp) moves new
+    (change_went (roster.is_reliable (reader_at peer k)) old h.0 k d.writer_sn (change_in d.content at.timestamp) moves new
     takes))
     (λ o. ⊎_elim
     (λ b. leaves_on old b.started new k (starts_leaves old h.0 k d.writer_sn b.starting b.started b.starts)
     (way_leaves b.started h.0 k b.going new b.takes.1))
     (λ n. subst (λ (s : State). Leaves old k s) (sym n.1) (leaves_same old k)) o)
-    (met_change (stands_to old h.0 k) (is_reliable_reader h.1.to.end) old h.0 k d.writer_sn
-    (change_in d.content at.timestamp) moves new h.2.0)
-reader_leaves config own peer at (Data d) k old moves dues new (inr h) = leaves_idle old k moves dues new h.1
-reader_leaves config own peer at (Gap g) k old moves dues new (inl h) =
+    (met_change (stands_to old h.0 k) (roster.is_reliable (reader_at peer k)) old h.0 k d.writer_sn
+    (change_in d.content at.timestamp) moves new h.3.0)
+reader_leaves roster own peer at (Data d) k old moves dues new (inr h) = leaves_idle old k moves dues new h.1
+reader_leaves roster own peer at (Gap g) k old moves dues new (inl h) =
     ⊎_elim
     (λ takes. ⊎_elim (λ t. way_leaves old h.0 k moves new t.1)
     (λ n. subst (λ (s : State). Leaves old k s) (sym n.1) (leaves_same old k))
-    (gap_went (is_reliable_reader h.1.to.end) old h.0 k g moves new takes))
+    (gap_went (roster.is_reliable (reader_at peer k)) old h.0 k g moves new takes))
     (λ n. subst (λ (s : State). Leaves old k s) (sym n.1) (leaves_same old k))
-    (met_gap (stands_to old h.0 k) (is_reliable_reader h.1.to.end) old h.0 k g moves new h.2.0)
-reader_leaves config own peer at (Gap g) k old moves dues new (inr h) = leaves_idle old k moves dues new h.1
-reader_leaves config own peer at (Heartbeat b) k old moves dues new (inl h) =
+    (met_gap (stands_to old h.0 k) (roster.is_reliable (reader_at peer k)) old h.0 k g moves new h.3.0)
+reader_leaves roster own peer at (Gap g) k old moves dues new (inr h) = leaves_idle old k moves dues new h.1
+reader_leaves roster own peer at (Heartbeat b) k old moves dues new (inl h) =
     ⊎_elim
-    (λ t. heartbeat_leaves own at old h.0 k h.1.entity (heard_as (is_reliable_reader h.1.to.end) b) moves dues new t)
+    (λ t. heartbeat_leaves own at old h.0 k h.1.entity (heard_as (roster.is_reliable (reader_at peer k)) b) moves dues new t)
     (λ o. ⊎_elim (λ x. alone_leaves old h.0 k b moves new x.0) (λ n. leaves_idle old k moves dues new n) o)
-    (met_heartbeat (stands_to old h.0 k) (is_reliable_reader h.1.to.end) own at old h.0 k h.1.entity b moves dues new
-    h.2)
-reader_leaves config own peer at (Heartbeat b) k old moves dues new (inr h) = leaves_idle old k moves dues new h.1
-reader_leaves config own peer at (AckNack a) k old moves dues new h = leaves_idle old k moves dues new h
-reader_leaves config own peer at Pad k old moves dues new h = leaves_idle old k moves dues new h
-reader_leaves config own peer at (InfoDst x) k old moves dues new h = leaves_idle old k moves dues new h
-reader_leaves config own peer at (InfoTs x) k old moves dues new h = leaves_idle old k moves dues new h
-reader_leaves config own peer at (Other x) k old moves dues new h = leaves_idle old k moves dues new h
+    (met_heartbeat (stands_to old h.0 k) (roster.is_reliable (reader_at peer k)) own at old h.0 k h.1.entity b moves dues new
+    h.3)
+reader_leaves roster own peer at (Heartbeat b) k old moves dues new (inr h) = leaves_idle old k moves dues new h.1
+reader_leaves roster own peer at (AckNack a) k old moves dues new h = leaves_idle old k moves dues new h
+reader_leaves roster own peer at Pad k old moves dues new h = leaves_idle old k moves dues new h
+reader_leaves roster own peer at (InfoDst x) k old moves dues new h = leaves_idle old k moves dues new h
+reader_leaves roster own peer at (InfoTs x) k old moves dues new h = leaves_idle old k moves dues new h
+reader_leaves roster own peer at (Other x) k old moves dues new h = leaves_idle old k moves dues new h
 
 -- ---- whose ACKNACK is due
 
 -- an ACKNACK there is that of this reader of the peer, and its readerId names that
 pub record Asks (c : Host) (k : ℕ) (due : Due) : Type 0 where
   pub named : (reader writer : EntityId) → HasSought (sought.AckNack reader writer) due.message.submessages
-      → IsReader c.config c.own reader (reader_at c.peer k)
+      → IsReader c.roster c.own reader (reader_at c.peer k)
   pub is : (w x : Endpoint) (count : ℤ) → IsWritable due.message
-      → HasAckNack c.config (spelling_of due.message) w x count → x ≡ reader_at c.peer k
+      → HasAckNack c.roster (spelling_of due.message) w x count → x ≡ reader_at c.peer k
 
 none_asks : (c : Host) (k : ℕ) (dues : List Due) → dues ≡ [] → (due : Due) → Contains dues due → Asks c k due
 none_asks c k dues none due among =
     let empty = ap (λ (ds : List Due). length ds) none in let lt = among.1 in absurd (omega (arith, empty, lt))
 
 due_asks : (c : Host) (at : Receiver) (reader_id writer_id : EntityId) (w : Endpoint) (k : ℕ)
-    (is : IsToReader c.config c.own at reader_id writer_id w (reader_at c.peer k))
+    (is : IsToReader c.roster c.own at reader_id writer_id w (reader_at c.peer k))
     (answer : Option AckNackDue) (due : Due)
     → Contains (acknacks_due c.own at.source_guid_prefix w.peer is.entity writer_id answer) due → Asks c k due
 due_asks c at reader_id writer_id w k is None due among = let lt = among.1 in absurd (omega (arith, lt))
 due_asks c at reader_id writer_id w k is (Some x) due among =
     subst (λ (d : Due). Asks c k d) (is_alone the due among) (record {
       named = λ reader writer has.
-          subst (λ (i : EntityId). IsReader c.config c.own i (reader_at c.peer k))
+          subst (λ (i : EntityId). IsReader c.roster c.own i (reader_at c.peer k))
           (one_sought (sought.AckNack reader writer) at.source_guid_prefix (AckNack body) (λ none. none) has).0
           is.to;
       is = λ v y count writable has.
-          let found = one_ask c.config c.own at.source_guid_prefix body v y count writable has in
-          (answer_names c.config c.checked c.own at reader_id writer_id w
+          let found = one_ask c.roster c.own at.source_guid_prefix body v y count writable has in
+          (answer_names c.roster c.checked c.own at reader_id writer_id w
           (reader_at c.peer k) is found.0 v y found.1).1;
     })
   where
@@ -244,13 +242,13 @@ due_asks c at reader_id writer_id w k is (Some x) due among =
 
 pub reader_asks : (c : Host) (at : Receiver) (s : Submessage) (k : ℕ) (old : State) (moves : List Move)
     (dues : List Due) (new : State)
-    → ReaderTakes c.config c.own c.peer at s k old moves dues new → (due : Due) → Contains dues due → Asks c k due
-reader_asks c at (Data d) k old moves dues new h = none_asks c k dues (⊎_elim (λ t. t.2.1) (λ n. n.1.1) h)
-reader_asks c at (Gap g) k old moves dues new h = none_asks c k dues (⊎_elim (λ t. t.2.1) (λ n. n.1.1) h)
+    → ReaderTakes c.roster c.own c.peer at s k old moves dues new → (due : Due) → Contains dues due → Asks c k due
+reader_asks c at (Data d) k old moves dues new h = none_asks c k dues (⊎_elim (λ t. t.3.1) (λ n. n.1.1) h)
+reader_asks c at (Gap g) k old moves dues new h = none_asks c k dues (⊎_elim (λ t. t.3.1) (λ n. n.1.1) h)
 reader_asks c at (Heartbeat b) k old moves dues new (inl h) =
-    by (is_reliable_reader h.1.to.end)
-    (met_heartbeat (stands_to old h.0 k) (is_reliable_reader h.1.to.end) c.own at old h.0 k h.1.entity b moves dues new
-    h.2)
+    by (c.roster.is_reliable (reader_at c.peer k))
+    (met_heartbeat (stands_to old h.0 k) (c.roster.is_reliable (reader_at c.peer k)) c.own at old h.0 k h.1.entity b moves dues new
+    h.3)
   where
     by : (reliable : Bool)
         → TakesHeartbeat c.own at old h.0 k h.1.entity (heard_as reliable b) moves dues new
@@ -288,21 +286,21 @@ pub record TurnOf (c : Host) (at : Receiver) (s : Submessage) (r : ℕ) (old : S
   pub due : List Due
   pub same_before : SameAt old before r
   pub keeps_before : Keeps old before
-  pub takes : ReaderTakes c.config c.own c.peer at s r before made due after
+  pub takes : ReaderTakes c.roster c.own c.peer at s r before made due after
   pub same_after : SameAt after new r
   pub each : (d : Due) → Contains dues d → Contains due d ⊎ OfOther c r d
   pub among : (d : Due) → Contains due d → Contains dues d
 
 abbrev Turns : Host → Receiver → Submessage → ℕ → ℕ → State → List Move → List Due → State → Type 0
 Turns c at s first count old moves dues new =
-    InTurn (ReaderTakes c.config c.own c.peer at s) (numbers_from first count) old moves dues new
+    InTurn (ReaderTakes c.roster c.own c.peer at s) (numbers_from first count) old moves dues new
 
 pub turns_keep : (c : Host) (at : Receiver) (s : Submessage) (first count : ℕ) (old : State) (moves : List Move)
     (dues : List Due) (new : State) → Turns c at s first count old moves dues new → Keeps old new
 turns_keep c at s first count old moves dues new h =
     in_turn (λ a ds b. Keeps a b) keeps_same (λ a b d ds es f g. keeps_on a b d f g)
-    (ReaderTakes c.config c.own c.peer at s)
-    (λ k a ms ds b t. (reader_leaves c.config c.own c.peer at s k a ms ds b t).keeps) (numbers_from first count) old
+    (ReaderTakes c.roster c.own c.peer at s)
+    (λ k a ms ds b t. (reader_leaves c.roster c.own c.peer at s k a ms ds b t).keeps) (numbers_from first count) old
     moves dues new h
 
 -- What others did leaves this reader as it was, and what is due is of them.
@@ -334,9 +332,9 @@ spares_on c r old mid new first rest dues all f g = record {
 -- the turn of another reader
 other_turn : (c : Host) (at : Receiver) (s : Submessage) (r k : ℕ) → (r ≡ k → ⊥)
     → (old : State) (moves : List Move) (dues : List Due) (new : State)
-    → ReaderTakes c.config c.own c.peer at s k old moves dues new → Spares c r old dues new
+    → ReaderTakes c.roster c.own c.peer at s k old moves dues new → Spares c r old dues new
 other_turn c at s r k apart old moves dues new h =
-    let left : Leaves old k new = reader_leaves c.config c.own c.peer at s k old moves dues new h in
+    let left : Leaves old k new = reader_leaves c.roster c.own c.peer at s k old moves dues new h in
     record {
       same = left.same r apart;
       keeps = left.keeps;

@@ -4,7 +4,7 @@ use Rattle.std.specs.Prelude.{if◌then◌else◌, nat_lt}
 use Rattle.std.proofs.lemmas.Bool.Decides.{nat_tests}
 use Rattle.std.proofs.lemmas.Int.{ints}
 use Rattle.std.proofs.lemmas.Option.{same_Some}
-use Rattle.dds_base.specs.declared.config.Config.{Config}
+use Rattle.dds_protocol.specs.Roster.{Roster}
 use Rattle.dds_base.specs.declared.happening.Happening.{Happening}
 use Rattle.dds_base.specs.declared.happening.PassedRun.{PassedRun}
 use Rattle.dds_base.specs.Places.{Match, PlaceWith, GoesTo}
@@ -29,20 +29,20 @@ use Rattle.dds_machine.proofs.Tables.{numbered-same, place-hits}
 -- ---- what is known after a step at one reader, as to one writer
 
 -- what has to hold of that writer and that reader
-pub record BackedAt (config : Config) (peer : ℕ) (packets : List (List ℕ)) (deliveries : List Delivery) (w : Endpoint)
+pub record BackedAt (roster : Roster) (peer : ℕ) (packets : List (List ℕ)) (deliveries : List Delivery) (w : Endpoint)
     (r : ℕ) (state : State) : Type 0 where
   pub place : (p : ℕ) → place_of (own_proxies state.part r) w ≡ Some p → (state.known.tracked w r).place ≡ p
   pub unknown : place_of (own_proxies state.part r) w ≡ None → (state.known.tracked w r).place ≡ 1
-  pub claimed : IsClaimed config peer packets w r (state.known.tracked w r)
-  pub newest : TookNone config peer deliveries w r (state.known.tracked w r)
+  pub claimed : IsClaimed roster peer packets w r (state.known.tracked w r)
+  pub newest : TookNone roster peer deliveries w r (state.known.tracked w r)
   pub heard : (count : ℤ) → heard_of (own_proxies state.part r) w ≡ Some (Some count)
       → is_later (state.known.tracked w r).count count ≡ false
 
 -- all else is as it was
-pub backed_on : (config : Config) (peer : ℕ) (packets : List (List ℕ)) (deliveries : List Delivery) (v : Endpoint)
-    (k : ℕ) (old new : State) → Frames old v k new → IsBacked config peer packets deliveries old
-    → BackedAt config peer packets deliveries v k new → IsBacked config peer packets deliveries new
-backed_on config peer packets deliveries v k old new f b h = record {
+pub backed_on : (roster : Roster) (peer : ℕ) (packets : List (List ℕ)) (deliveries : List Delivery) (v : Endpoint)
+    (k : ℕ) (old new : State) → Frames old v k new → IsBacked roster peer packets deliveries old
+    → BackedAt roster peer packets deliveries v k new → IsBacked roster peer packets deliveries new
+backed_on roster peer packets deliveries v k old new f b h = record {
   place = λ w r p e.
       ⊎_elim (λ same. subst (λ (x : Endpoint). (new.known.tracked x r).place ≡ p) (sym same.0)
       (subst (λ (n : ℕ). (new.known.tracked v n).place ≡ p) (sym same.1)
@@ -60,20 +60,20 @@ backed_on config peer packets deliveries v k old new f b h = record {
       ∙ b.unknown w r (before (λ xs. place_of xs w) w r (f.places w) apart (number_or_not r k) ∙ e))
       (pair_or_not w r v k);
   claimed = λ w r.
-      ⊎_elim (λ same. subst (λ (x : Endpoint). IsClaimed config peer packets x r (new.known.tracked x r)) (sym same.0)
-      (subst (λ (n : ℕ). IsClaimed config peer packets v n (new.known.tracked v n)) (sym same.1) h.claimed))
-      (λ apart. subst (λ (t : Tracked). IsClaimed config peer packets w r t) (sym (f.tracked w r apart))
+      ⊎_elim (λ same. subst (λ (x : Endpoint). IsClaimed roster peer packets x r (new.known.tracked x r)) (sym same.0)
+      (subst (λ (n : ℕ). IsClaimed roster peer packets v n (new.known.tracked v n)) (sym same.1) h.claimed))
+      (λ apart. subst (λ (t : Tracked). IsClaimed roster peer packets w r t) (sym (f.tracked w r apart))
       (b.claimed w r))
       (pair_or_not w r v k);
   newest = λ w r there.
-      ⊎_elim (λ same. subst (λ (x : Endpoint). TookNone config peer deliveries x r (new.known.tracked x r)) (sym same.0)
-      (subst (λ (n : ℕ). TookNone config peer deliveries v n (new.known.tracked v n)) (sym same.1) h.newest))
+      ⊎_elim (λ same. subst (λ (x : Endpoint). TookNone roster peer deliveries x r (new.known.tracked x r)) (sym same.0)
+      (subst (λ (n : ℕ). TookNone roster peer deliveries v n (new.known.tracked v n)) (sym same.1) h.newest))
       (λ apart.
       let count = f.count in
       let least = there.0 in
       let most = there.1 in
       let there_before : HasNumber old.part.rtps.readers r = (least, omega (arith, count, most)) in
-      subst (λ (t : Tracked). TookNone config peer deliveries w r t) (sym (f.tracked w r apart))
+      subst (λ (t : Tracked). TookNone roster peer deliveries w r t) (sym (f.tracked w r apart))
       (b.newest w r there_before))
       (pair_or_not w r v k);
   heard = λ w r count e.
@@ -97,10 +97,10 @@ backed_on config peer packets deliveries v k old new f b h = record {
 -- ---- the place goes on
 
 -- what the reader may rest on, the packets claim
-pub says_as_much : (config : Config) (before : List Delivery) (packet : List ℕ) (rows : List (List WriterProxy))
-    (peer index : ℕ) (w : Endpoint) (r : ℕ) (t : Tracked) → IsClaimed config peer (packet ∷ packets_of before) w r t
-    → SayAsMuch (known t) (as_to (claimed config before packet rows peer index) w r) t.place
-says_as_much config before packet rows peer index w r t k =
+pub says_as_much : (roster : Roster) (before : List Delivery) (packet : List ℕ) (rows : List (List WriterProxy))
+    (peer index : ℕ) (w : Endpoint) (r : ℕ) (t : Tracked) → IsClaimed roster peer (packet ∷ packets_of before) w r t
+    → SayAsMuch (known t) (as_to (claimed roster before packet rows peer index) w r) t.place
+says_as_much roster before packet rows peer index w r t k =
     record { is_change = λ n c low h. k.change n c low h; may_pass = λ n low h. k.pass n low h }
 
 -- the moves that a way makes are legal, where its changes and runs may rest on these grounds
@@ -166,13 +166,13 @@ goes_moves_on g old w r t moves new says h at =
     (record { place = h.to; happened = h.happened })) at h.advances.goes))
 
 -- so they are where packets claim what it knows
-pub goes_moves : (config : Config) (before : List Delivery) (packet : List ℕ) (rows : List (List WriterProxy))
+pub goes_moves : (roster : Roster) (before : List Delivery) (packet : List ℕ) (rows : List (List WriterProxy))
     (peer index : ℕ) (old : State) (w : Endpoint) (r : ℕ) (t : Tracked) (moves : List Move) (new : State)
-    → IsClaimed config peer (packet ∷ packets_of before) w r t → (h : Goes old w r t moves new) → t.place ≡ h.place
-    → AreMoves (claimed config before packet rows peer index) old.part moves new.part
-goes_moves config before packet rows peer index old w r t moves new k h at =
-    goes_moves_on (claimed config before packet rows peer index) old w r t moves new
-    (says_as_much config before packet rows peer index w r t k) h at
+    → IsClaimed roster peer (packet ∷ packets_of before) w r t → (h : Goes old w r t moves new) → t.place ≡ h.place
+    → AreMoves (claimed roster before packet rows peer index) old.part moves new.part
+goes_moves roster before packet rows peer index old w r t moves new k h at =
+    goes_moves_on (claimed roster before packet rows peer index) old w r t moves new
+    (says_as_much roster before packet rows peer index w r t k) h at
 
 -- other readers and writers see nothing of it
 pub way_frames : {Way : Match → List Happening → ℕ → List PassedRun → Tracked → List Happening → Type 0}
@@ -185,13 +185,13 @@ way_frames old w r moves new h =
     (λ v k apart. tracked_elsewhere old.known w r h.known v k apart))
 
 -- what is known stays backed
-pub goes_backed : (config : Config) (peer : ℕ) (packets : List (List ℕ)) (deliveries : List Delivery) (old : State)
+pub goes_backed : (roster : Roster) (peer : ℕ) (packets : List (List ℕ)) (deliveries : List Delivery) (old : State)
     (w : Endpoint) (r : ℕ) (t : Tracked) (moves : List Move) (new : State)
-    → IsClaimed config peer packets w r t → TookNone config peer deliveries w r t
+    → IsClaimed roster peer packets w r t → TookNone roster peer deliveries w r t
     → ((count : ℤ) → heard_of (own_proxies old.part r) w ≡ Some (Some count) → is_later t.count count ≡ false)
-    → Went old w r t moves new → BackedAt config peer packets deliveries w r new
-goes_backed config peer packets deliveries old w r t moves new k newest heard h =
-    subst (λ (s : State). BackedAt config peer packets deliveries w r s) (sym h.after) (record {
+    → Went old w r t moves new → BackedAt roster peer packets deliveries w r new
+goes_backed roster peer packets deliveries old w r t moves new k newest heard h =
+    subst (λ (s : State). BackedAt roster peer packets deliveries w r s) (sym h.after) (record {
       place = λ p e.
           let at : Some h.to ≡ Some p =
           sym (ap (λ (xs : List WriterProxy). place_of xs w) rows
@@ -201,8 +201,8 @@ goes_backed config peer packets deliveries old w r t moves new k newest heard h 
           absurd (let no : Some h.to ≡ None =
           sym (ap (λ (xs : List WriterProxy). place_of xs w) rows
           ∙ place-hits (own_proxies old.part r) w h.place h.to h.matched.at) ∙ e in cc);
-      claimed = subst (λ (x : Tracked). IsClaimed config peer packets w r x) (sym here)
-          (gone_claimed config peer packets w r t h.to h.known k h.advances);
+      claimed = subst (λ (x : Tracked). IsClaimed roster peer packets w r x) (sym here)
+          (gone_claimed roster peer packets w r t h.to h.known k h.advances);
       newest = λ d count among applied. ap (λ (x : Option ℤ). is_later x count) counts ∙ newest d count among applied;
       heard = λ count e.
           ap (λ (x : Option ℤ). is_later x count) counts
@@ -223,16 +223,16 @@ goes_backed config peer packets deliveries old w r t moves new k newest heard h 
         (has_reader old.part r h.place w h.matched.at)
 
 -- so all that the peer knows does, where the place goes on and no HEARTBEAT is told
-pub went_backed : (config : Config) (peer : ℕ) (packets : List (List ℕ)) (deliveries : List Delivery) (old : State)
+pub went_backed : (roster : Roster) (peer : ℕ) (packets : List (List ℕ)) (deliveries : List Delivery) (old : State)
     (w : Endpoint) (r : ℕ) (t : Tracked) (moves : List Move) (new : State)
-    → IsBacked config peer packets deliveries old → t.count ≡ (old.known.tracked w r).count
-    → IsClaimed config peer packets w r t → Went old w r t moves new → IsBacked config peer packets deliveries new
-went_backed config peer packets deliveries old w r t moves new b count k h =
-    let newest : TookNone config peer deliveries w r t =
+    → IsBacked roster peer packets deliveries old → t.count ≡ (old.known.tracked w r).count
+    → IsClaimed roster peer packets w r t → Went old w r t moves new → IsBacked roster peer packets deliveries new
+went_backed roster peer packets deliveries old w r t moves new b count k h =
+    let newest : TookNone roster peer deliveries w r t =
     λ d n among applied. ap (λ (o : Option ℤ). is_later o n) count
     ∙ b.newest w r (has_reader old.part r h.place w h.matched.at) d n among applied in
-    backed_on config peer packets deliveries w r old new (way_frames old w r moves new h) b
-    (goes_backed config peer packets deliveries old w r t moves new k newest
+    backed_on roster peer packets deliveries w r old new (way_frames old w r moves new h) b
+    (goes_backed roster peer packets deliveries old w r t moves new k newest
     (λ n e. ap (λ (o : Option ℤ). is_later o n) count ∙ b.heard w r n e) h)
 
 -- ---- counts of HEARTBEATs

@@ -2,7 +2,6 @@
 use Rattle.std.proofs.Common.{◌≡◌, ◌⊎◌, ℕ, ℤ, ◌<◌, ◌≤◌, Bool, true, false, List, [], ◌++◌, Option, Some, None, refl, subst, ap, sym, ◌∙◌, inl, inr, ⊎_elim, arith}
 use Rattle.std.specs.Option.{option_map_or}
 use Rattle.dds_base.specs.declared.guid.EntityId.{EntityId}
-use Rattle.dds_base.specs.Matched.{is_reliable_reader}
 use Rattle.dds_base.specs.Counts.{is_later}
 use Rattle.rtps_reader.specs.Tracked.{Tracked, with_heartbeat}
 use Rattle.rtps_reader.specs.Answer.{answered}
@@ -26,6 +25,7 @@ use Rattle.dds_protocol.proofs.Ruled.{BackedAt, backed_on, goes_moves, way_frame
 use Rattle.dds_protocol.proofs.Growth.{AreMoves-grows, none_before}
 use Rattle.dds_machine.proofs.Tables.{numbered-same, place-heard}
 use Rattle.dds_protocol.proofs.RuledReaders.{Backs, Coming, IsStarted, IsTakenAt, Met, deliveries, grounds, not_started, nothing_taken, packets, starts_at, tracked_by, writer_is}
+use Rattle.dds_protocol.proofs.KnownRows.{unknown_apart}
 
 -- the reader hears the writer, if flag L is set
 pub record IsHeard (c : Coming) (w : Endpoint) (r : ℕ) (count : ℤ) (old : State) (hearing : List Move)
@@ -45,7 +45,7 @@ heard_later c w r count old b later (Some n) e = earlier (tracked_by old w r).co
 
 hears : (c : Coming) (w : Endpoint) (r : ℕ) (count : ℤ) (flag : Bool) (old : State) (hearing : List Move)
     (heard : State) → Backs c old → HasNumber old.part.rtps.readers r → is_later (tracked_by old w r).count count ≡ true
-    → (flag ≡ true → Claimed c.config (packets c) (Asserts w (reader_at c.peer r) count))
+    → (flag ≡ true → Claimed c.roster (packets c) (Asserts w (reader_at c.peer r) count))
     → Asserting flag old w r count hearing heard → IsHeard c w r count old hearing heard
 hears c w r count true old hearing heard b there later says h =
     let last = heard_there 1 h.0.publication (own_proxies old.part r) w h.0.handle in
@@ -104,11 +104,11 @@ record IsHeardAs (c : Coming) (h s : HeartbeatBody) (w : Endpoint) (r : ℕ) : T
   count : s.count ≡ h.count
   flag : s.liveliness_flag ≡ h.liveliness_flag
   first : (n : ℕ) → n < s.first_sn
-      → IsToReliable c.config c.own c.at h.reader_id h.writer_id w (reader_at c.peer r) × (n < h.first_sn)
+      → IsToReliable c.roster c.own c.at h.reader_id h.writer_id w (reader_at c.peer r) × (n < h.first_sn)
 
 is_heard_as : (c : Coming) (h : HeartbeatBody) (w : Endpoint) (r : ℕ)
-    → (to : IsToReader c.config c.own c.at h.reader_id h.writer_id w (reader_at c.peer r)) (reliable : Bool)
-    → is_reliable_reader to.to.end ≡ reliable → IsHeardAs c h (heard_as reliable h) w r
+    → (to : IsToReader c.roster c.own c.at h.reader_id h.writer_id w (reader_at c.peer r)) (reliable : Bool)
+    → c.roster.is_reliable (reader_at c.peer r) ≡ reliable → IsHeardAs c h (heard_as reliable h) w r
 is_heard_as c h w r to true reliable =
     record { count = refl; flag = refl; first = λ n below. (record { is_to = to; reliable = reliable }, below) }
 is_heard_as c h w r to false other =
@@ -128,7 +128,7 @@ start_place w r first Begun heard starting started p h e =
 heartbeat_takes : (c : Coming) (h s : HeartbeatBody) → c.submessage ≡ Heartbeat h
     → (w : Endpoint) (r : ℕ) (entity : EntityId) (old : State) (made : List Move) (dues : List Due) (new : State)
     → Backs c old
-    → IsToReader c.config c.own c.at h.reader_id h.writer_id w (reader_at c.peer r) → IsHeardAs c h s w r
+    → IsToReader c.roster c.own c.at h.reader_id h.writer_id w (reader_at c.peer r) → IsHeardAs c h s w r
     → TakesHeartbeat c.own c.at old w r entity s made dues new → IsTakenAt c (Heartbeat h) r old made new
 heartbeat_takes c h s is w r entity old made dues new b to heard_so k =
     record {
@@ -136,9 +136,9 @@ heartbeat_takes c h s is w r entity old made dues new b to heard_so k =
           (subst (λ (p : Part). AreMoves (grounds c) old.part (k.hearing ++ (k.starting ++ k.going)) p) (sym part)
           (moves_on (grounds c) old.part k.hearing k.heard.part (k.starting ++ k.going) k.there.part heard.moves
           (moves_on (grounds c) k.heard.part k.starting k.started.part k.going k.there.part start.moves
-          (goes_moves c.config c.before c.packet c.rows c.peer c.index k.started w r t k.going k.there claimed_by
+          (goes_moves c.roster c.before c.packet c.rows c.peer c.index k.started w r t k.going k.there claimed_by
           k.goes at))));
-      backed = backed_on c.config c.peer (packets c) (deliveries c) w r old new frames b here;
+      backed = backed_on c.roster c.peer (packets c) (deliveries c) w r old new frames b here;
       writer = w;
       frames = frames;
       past = λ v v_to met.
@@ -160,22 +160,22 @@ heartbeat_takes c h s is w r entity old made dues new b to heard_so k =
     there : HasNumber old.part.rtps.readers r
     there = asserting_there s.liveliness_flag old w r placed.0 s.count k.hearing k.heard k.asserts placed.1
 
-    says_pass : (n : ℕ) → 1 ≤ n → n < s.first_sn → Claimed c.config (packets c) (MayPass w (reader_at c.peer r) n)
+    says_pass : (n : ℕ) → 1 ≤ n → n < s.first_sn → Claimed c.roster (packets c) (MayPass w (reader_at c.peer r) n)
     says_pass n least below =
         c.says (MayPass w (reader_at c.peer r) n)
-        (subst (λ (x : Submessage). Says c.config c.own c.at x (MayPass w (reader_at c.peer r) n)) (sym is)
+        (subst (λ (x : Submessage). Says c.roster c.own c.at x (MayPass w (reader_at c.peer r) n)) (sym is)
         ((heard_so.first n below).0, least, (heard_so.first n below).1))
 
     heard : IsHeard c w r s.count old k.hearing k.heard
     heard =
         hears c w r s.count s.liveliness_flag old k.hearing k.heard b there k.later
         (λ flag. c.says (Asserts w (reader_at c.peer r) s.count)
-        (subst (λ (x : Submessage). Says c.config c.own c.at x (Asserts w (reader_at c.peer r) s.count)) (sym is)
+        (subst (λ (x : Submessage). Says c.roster c.own c.at x (Asserts w (reader_at c.peer r) s.count)) (sym is)
         (to, sym heard_so.flag ∙ flag, heard_so.count))) k.asserts
 
-    claimed_heard : IsClaimed c.config c.peer (packets c) w r (tracked_by k.heard w r)
+    claimed_heard : IsClaimed c.roster c.peer (packets c) w r (tracked_by k.heard w r)
     claimed_heard =
-        subst (λ (x : Known). IsClaimed c.config c.peer (packets c) w r (x.tracked w r)) (sym heard.known)
+        subst (λ (x : Known). IsClaimed c.roster c.peer (packets c) w r (x.tracked w r)) (sym heard.known)
         (b.claimed w r)
 
     place_heard : (p : ℕ) → place_of (own_proxies k.heard.part r) w ≡ Some p → (tracked_by k.heard w r).place ≡ p
@@ -192,15 +192,15 @@ heartbeat_takes c h s is w r entity old made dues new b to heard_so k =
     start : IsStarted c w r k.heard k.starting k.started
     start = begins (stands_to old w r) k.starts
 
-    claimed_by : IsClaimed c.config c.peer (packets c) w r t
+    claimed_by : IsClaimed c.roster c.peer (packets c) w r t
     claimed_by =
-        heartbeat_claimed c.config c.peer (packets c) w r s.first_sn s.count (tracked_by k.started w r) start.claimed
+        heartbeat_claimed c.roster c.peer (packets c) w r s.first_sn s.count (tracked_by k.started w r) start.claimed
         says_pass
 
     at : t.place ≡ k.goes.place
     at = start.place k.goes.place k.goes.matched.at
 
-    newest : TookNone c.config c.peer (deliveries c) w r t
+    newest : TookNone c.roster c.peer (deliveries c) w r t
     newest d n among applied =
         later_on (tracked_by old w r).count s.count n k.later (b.newest w r there d n among applied)
 
@@ -210,9 +210,9 @@ heartbeat_takes c h s is w r entity old made dues new b to heard_so k =
         (λ same. subst (λ (x : ℤ). is_later (Some s.count) x ≡ false) same (not_later_than_itself s.count))
         (heard.counts n (start.counts n e))
 
-    gone : BackedAt c.config c.peer (packets c) (deliveries c) w r k.there
+    gone : BackedAt c.roster c.peer (packets c) (deliveries c) w r k.there
     gone =
-        goes_backed c.config c.peer (packets c)
+        goes_backed c.roster c.peer (packets c)
         (deliveries c) k.started w r t k.going k.there claimed_by newest no_later
         (goes_went k.started w r t k.going k.there k.goes)
 
@@ -234,7 +234,7 @@ heartbeat_takes c h s is w r entity old made dues new b to heard_so k =
         ∙ (ap (λ (x : Tracked). x.count) (tracked_here k.started.known w r k.goes.known)
         ∙ k.goes.advances.stays.count))
 
-    here : BackedAt c.config c.peer (packets c) (deliveries c) w r new
+    here : BackedAt c.roster c.peer (packets c) (deliveries c) w r new
     here = record {
       place = λ p e.
           ap (λ (x : Tracked). x.place) known_is
@@ -245,8 +245,8 @@ heartbeat_takes c h s is w r entity old made dues new b to heard_so k =
           ∙ ((answered_same k.answer (k.there.known.tracked w r)).0
           ∙ gone.unknown (ap (λ (q : Part). place_of (own_proxies q r) w) (sym part) ∙ e));
       claimed =
-          subst (λ (x : Tracked). IsClaimed c.config c.peer (packets c) w r x) (sym known_is)
-          (answered_claimed c.config c.peer (packets c) w r k.answer (k.there.known.tracked w r) gone.claimed);
+          subst (λ (x : Tracked). IsClaimed c.roster c.peer (packets c) w r x) (sym known_is)
+          (answered_claimed c.roster c.peer (packets c) w r k.answer (k.there.known.tracked w r) gone.claimed);
       newest = λ d n among applied. ap (λ (o : Option ℤ). is_later o n) same_count ∙ gone.newest d n among applied;
       heard =
           λ n e. ap (λ (o : Option ℤ). is_later o n) same_count
@@ -276,11 +276,11 @@ waits_there part r w h = by (row_of (λ (p : WriterProxy). p.writer) (own_proxie
 -- a best-effort reader that waits hears the writer alone
 heard_alone : (c : Coming) (h : HeartbeatBody) → c.submessage ≡ Heartbeat h
     → (w : Endpoint) (r : ℕ) (old : State) (made : List Move) (new : State) → Backs c old
-    → IsToReader c.config c.own c.at h.reader_id h.writer_id w (reader_at c.peer r)
+    → IsToReader c.roster c.own c.at h.reader_id h.writer_id w (reader_at c.peer r)
     → HasNumber old.part.rtps.readers r → HearsAlone old w r h made new → IsTakenAt c (Heartbeat h) r old made new
 heard_alone c h is w r old made new b to there k = record {
   moves = subst (λ (p : Part). AreMoves (grounds c) old.part made p) (sym part) heard.moves;
-  backed = backed_on c.config c.peer (packets c) (deliveries c) w r old new frames b here;
+  backed = backed_on c.roster c.peer (packets c) (deliveries c) w r old new frames b here;
   writer = w;
   frames = frames;
   past = λ v v_to met.
@@ -297,7 +297,7 @@ heard_alone c h is w r old made new b to there k = record {
     heard =
         hears c w r h.count h.liveliness_flag old made k.heard b there k.later
         (λ flag. c.says (Asserts w (reader_at c.peer r) h.count)
-        (subst (λ (x : Submessage). Says c.config c.own c.at x (Asserts w (reader_at c.peer r) h.count)) (sym is)
+        (subst (λ (x : Submessage). Says c.roster c.own c.at x (Asserts w (reader_at c.peer r) h.count)) (sym is)
         (to, flag, refl))) k.asserts
 
     part : new.part ≡ k.heard.part
@@ -311,12 +311,12 @@ heard_alone c h is w r old made new b to there k = record {
         frames_on old k.heard new w r heard.frames
         (subst (λ (s : State). Frames k.heard w r s) (sym k.after) (frames_known k.heard w r t))
 
-    known : IsClaimed c.config c.peer (packets c) w r (tracked_by k.heard w r)
+    known : IsClaimed c.roster c.peer (packets c) w r (tracked_by k.heard w r)
     known =
-        subst (λ (x : Known). IsClaimed c.config c.peer (packets c) w r (x.tracked w r)) (sym heard.known)
+        subst (λ (x : Known). IsClaimed c.roster c.peer (packets c) w r (x.tracked w r)) (sym heard.known)
         (b.claimed w r)
 
-    here : BackedAt c.config c.peer (packets c) (deliveries c) w r new
+    here : BackedAt c.roster c.peer (packets c) (deliveries c) w r new
     here = record {
       place = λ p e.
           ap (λ (x : Tracked). x.place) known_is
@@ -329,7 +329,7 @@ heard_alone c h is w r old made new b to there k = record {
           (none_before old.part.rtps k.heard.part.rtps
           (AreMoves-grows (grounds c) old.part made k.heard.part heard.moves) r w
           (ap (λ (q : Part). place_of (own_proxies q r) w) (sym part) ∙ e)));
-      claimed = subst (λ (x : Tracked). IsClaimed c.config c.peer (packets c) w r x) (sym known_is)
+      claimed = subst (λ (x : Tracked). IsClaimed c.roster c.peer (packets c) w r x) (sym known_is)
           (record { from = known.from; change = known.change; pass = known.pass });
       newest = λ d n among applied.
           ap (λ (x : Tracked). is_later x.count n) known_is
@@ -343,10 +343,10 @@ heard_alone c h is w r old made new b to there k = record {
 
 pub heartbeat_taken : (c : Coming) (h : HeartbeatBody) → c.submessage ≡ Heartbeat h
     → (r : ℕ) (old : State) (made : List Move) (dues : List Due) (new : State) → Backs c old → Met c old
-    → ReaderTakes c.config c.own c.peer c.at (Heartbeat h) r old made dues new
+    → ReaderTakes c.roster c.own c.peer c.at (Heartbeat h) r old made dues new
     → IsTakenAt c (Heartbeat h) r old made new
 heartbeat_taken c h is r old made dues new b met (inl k) =
-    so (stands_to old k.0 r) refl (is_reliable_reader k.1.to.end) refl k.2
+    so (stands_to old k.0 r) refl (c.roster.is_reliable (reader_at c.peer r)) refl k.3
   where
     -- a count that is no later does nothing
     idles : (is_later (tracked_by old k.0 r).count h.count ≡ false) × Idles old made dues new
@@ -357,7 +357,7 @@ heartbeat_taken c h is r old made dues new b met (inl k) =
         (writer_is c h.reader_id h.writer_id k.0 v r k.1 v_to) not.0)
         (λ v publication number ch told matched. absurd told)
 
-    takes : (reliable : Bool) → is_reliable_reader k.1.to.end ≡ reliable
+    takes : (reliable : Bool) → c.roster.is_reliable (reader_at c.peer r) ≡ reliable
         → TakesOrNot c.own c.at old k.0 r k.1.entity (heard_as reliable h) made dues new
         → IsTakenAt c (Heartbeat h) r old made new
     takes reliable e (inl x) =
@@ -371,7 +371,7 @@ heartbeat_taken c h is r old made dues new b met (inl k) =
         )
 
     so : (how : Attachment) → stands_to old k.0 r ≡ how → (reliable : Bool)
-        → is_reliable_reader k.1.to.end ≡ reliable
+        → c.roster.is_reliable (reader_at c.peer r) ≡ reliable
         → MeetsHeartbeat how reliable c.own c.at old k.0 r k.1.entity h made dues new
         → IsTakenAt c (Heartbeat h) r old made new
     so Away e reliable of idle =
@@ -389,5 +389,6 @@ heartbeat_taken c h is r old made dues new b met (inl k) =
     so Waiting e true of x = takes true of x
     so Begun e reliable of x = takes reliable of x
 heartbeat_taken c h is r old made dues new b met (inr k) =
-    nothing_taken c (Heartbeat h) r old made dues new b k.1 (λ w told m. absurd (k.0 w told))
+    nothing_taken c (Heartbeat h) r old made dues new b k.1
+    (λ w told m. absurd (unknown_apart (own_proxies old.part r) w (k.0 w told) (met r w ∙ m)))
     (λ w publication number change told matched. absurd told)

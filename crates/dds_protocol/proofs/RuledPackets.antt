@@ -1,9 +1,7 @@
 -- A packet that a peer takes up by the rules of the protocol makes moves that rest on what packets claim.
-use Rattle.std.proofs.Common.{◌≡◌, ◌⊎◌, ℕ, ℤ, zero, suc, ◌+◌, ◌-◌, ◌<◌, ◌≤◌, true, false, List, [], ◌∷◌, ◌++◌, Option, Some, None, Contains, refl, subst, ap, sym, ◌∙◌, inl, inr, ⊎_elim, arith, length, slice_get, get_or}
-use Rattle.std.proofs.lemmas.Option.{same_Some}
+use Rattle.std.proofs.Common.{◌≡◌, ◌⊎◌, ℕ, ℤ, zero, suc, ◌+◌, ◌<◌, true, false, List, [], ◌∷◌, ◌++◌, Option, Some, None, Contains, refl, subst, ap, sym, ◌∙◌, inl, inr, ⊎_elim, arith, length}
 use Rattle.dds_base.specs.declared.change.Change.{Change}
-use Rattle.dds_base.specs.declared.config.Config.{Config}
-use Rattle.dds_base.specs.declared.config.PeerConfig.{PeerConfig}
+use Rattle.dds_protocol.specs.Roster.{IsRoster, Roster}
 use Rattle.dds_base.specs.declared.guid.EntityId.{EntityId}
 use Rattle.dds_base.specs.declared.guid.GuidPrefix.{GuidPrefix}
 use Rattle.dds_base.specs.Kept.{numbers_from}
@@ -17,16 +15,15 @@ use Rattle.rtps_wire.specs.Messages.{ReadsMessage}
 use Rattle.dds_base.specs.declared.endpoint.Endpoint.{Endpoint}
 use Rattle.dds_machine.specs.declared.reply.Move.{Move}
 use Rattle.dds_machine.specs.declared.reply.Report.{Report}
-use Rattle.dds_machine.specs.Numbered.{numbered, HasNumber}
+use Rattle.dds_machine.specs.Numbered.{HasNumber}
 use Rattle.dds_machine.specs.Part.{WriterProxy, Part, own_proxies, place_of, heard_of}
 use Rattle.dds_machine.specs.Moves.{IsMatchedAt, AreMoves}
 use Rattle.dds_protocol.specs.Claims.{Receiver, receiver_of, after_submessage, StandsAt, StandsIn, IsReader, IsToReader, ChangeIs, Concerns, Says}
-use Rattle.dds_protocol.specs.Receipt.{prefix_of, MovesOver, TakesUp, IsNotTaken, Receives}
+use Rattle.dds_protocol.specs.Receipt.{MovesOver, TakesUp, IsNotTaken, Receives}
 use Rattle.dds_protocol.specs.Peer.{Delivery, IsApplied, IsBefore, claimed, packets_of}
 use Rattle.dds_protocol.specs.DueMessages.{Due}
 use Rattle.dds_protocol.specs.Protocol.{Known, State, InTurn, ReaderTakes, Takes, MayNeedMemory, FollowsMessage, TakesPacket}
 use Rattle.dds_protocol.specs.Backed.{reader_at, IsClaimed, IsBacked}
-use Rattle.dds_protocol.specs.Roster.{IsRoster}
 use Rattle.dds_protocol.proofs.Attached.{SameMet, is_met}
 use Rattle.dds_protocol.proofs.Knowing.{claimed_on}
 use Rattle.dds_protocol.proofs.Composed.{front_or_rest, later_in}
@@ -44,7 +41,7 @@ pub record Taken (c : Coming) (old : State) (made : List Move) (new : State) : T
   pub backed : Backs c new
   pub readers : length new.part.rtps.readers ≡ length old.part.rtps.readers
   pub past : (r : ℕ) → HasNumber new.part.rtps.readers r → IsPast c c.submessage r new
-  pub over : MovesOver c.config (grounds c) c.peer c.own c.at c.submessage old.part made
+  pub over : MovesOver c.roster (grounds c) c.peer c.own c.at c.submessage old.part made
 
 pub by_readers : (c : Coming) (s : Submessage) → c.submessage ≡ s → IsTelling s
     → (old : State) (made : List Move) (dues : List Due) (new : State)
@@ -65,15 +62,15 @@ by_readers c s is telling old made dues new there b t = record {
       let high = has.1 in
       let at : r ≡ reader_at c.peer r.number = endpoint_at r here in
       t.over r.number low (omega (arith, high)) w p n change
-      (subst (λ (e : Endpoint). Says c.config c.own c.at s (ChangeIs w e n change)) at
-      (subst (λ (x : Submessage). Says c.config c.own c.at x (ChangeIs w r n change)) is told)) matched;
+      (subst (λ (e : Endpoint). Says c.roster c.own c.at s (ChangeIs w e n change)) at
+      (subst (λ (x : Submessage). Says c.roster c.own c.at x (ChangeIs w r n change)) is told)) matched;
 }
   where
     endpoint_at : (r : Endpoint) → r.peer ≡ c.peer → r ≡ reader_at c.peer r.number
     endpoint_at r e = ap (λ (p : ℕ). reader_at p r.number) e
 
 pub by_writers : (c : Coming) (s : Submessage) → c.submessage ≡ s → ((r : ℕ) (x : State) → IsPast c s r x)
-    → ((w r : Endpoint) (n : ℕ) (change : Change) → Says c.config c.own c.at s (ChangeIs w r n change) → ⊥)
+    → ((w r : Endpoint) (n : ℕ) (change : Change) → Says c.roster c.own c.at s (ChangeIs w r n change) → ⊥)
     → (old : State) (made : List Move) (new : State)
     → IsTaken c old made new → Taken c old made new
 by_writers c s is past says old made new t = record {
@@ -83,12 +80,12 @@ by_writers c s is past says old made new t = record {
   past = λ r has. subst (λ (x : Submessage). IsPast c x r new) (sym is) (past r new);
   over =
       λ w r p n change told here matched least most. absurd (says w r n change
-      (subst (λ (x : Submessage). Says c.config c.own c.at x (ChangeIs w r n change)) is told));
+      (subst (λ (x : Submessage). Says c.roster c.own c.at x (ChangeIs w r n change)) is told));
 }
 
 pub taken : (c : Coming) (s : Submessage) → c.submessage ≡ s
     → (old : State) (made : List Move) (dues : List Due) (new : State) → Backs c old → Met c old
-    → Takes c.config c.own c.peer c.at s old made dues new → Taken c old made new
+    → Takes c.roster c.own c.peer c.at s old made dues new → Taken c old made new
 taken c (AckNack a) is old made dues new b met h =
     by_writers c (AckNack a) is (λ r x. tt) (λ w r n change told. told) old made new
     (writers_taken c a is old (numbers_from 1 (length old.part.rtps.writers)) old made dues new b h)
@@ -100,8 +97,8 @@ taken c s is old made dues new b met h =
 
 -- a packet that is a message, comes to a peer after these deliveries, and found these rows
 pub record Packet : Type 0 where
-  pub config : Config
-  pub checked : IsRoster config.peers
+  pub roster : Roster
+  pub checked : IsRoster roster
   pub peer : ℕ
   pub before : List Delivery
   pub bytes : List ℕ
@@ -111,7 +108,7 @@ pub record Packet : Type 0 where
   pub is_read : ReadsMessage bytes message offset
 
 abbrev pub own : Packet → GuidPrefix
-own p = prefix_of p.config p.peer
+own p = p.roster.prefix p.peer
 
 abbrev pub Stands : Packet → ℕ → Receiver → Submessage → Type 0
 Stands p index at s = StandsAt (own p) (receiver_of p.message.prefix) p.message.submessages index at s
@@ -138,25 +135,13 @@ rest_next p index at s ss h = record {
 
 abbrev pub Backed : Packet → Option ℕ → State → Type 0
 Backed p refused s =
-    IsBacked p.config p.peer (p.bytes ∷ packets_of p.before)
+    IsBacked p.roster p.peer (p.bytes ∷ packets_of p.before)
     (record { packet = p.bytes; rows = p.rows; report = record { moves = []; refused = refused } } ∷ p.before) s
 
 -- the prefix of the reader's peer is the one by which the message is received
-pub numbered_is : {X : Type 0} (xs : List X) (n : ℕ) (x d : X) → 1 ≤ n → slice_get xs (n - 1) ≡ Some x
-    → numbered xs n d ≡ x
-numbered_is xs zero x d low h = absurd (omega (arith, low))
-numbered_is xs (suc i) x d low h = get_is xs i x d (ap (λ (k : ℕ). slice_get xs k) (omega arith) ∙ h)
-  where
-    get_is : {X : Type 0} (xs : List X) (i : ℕ) (x d : X) → slice_get xs i ≡ Some x → get_or xs i d ≡ x
-    get_is [] i x d h = cc
-    get_is (y ∷ ys) zero x d h = same_Some y x h
-    get_is (y ∷ ys) (suc i) x d h = get_is ys i x d h
-
 own_is : (p : Packet) (prefix : GuidPrefix) (entity : EntityId) (r : ℕ)
-    → IsReader p.config prefix entity (reader_at p.peer r) → prefix ≡ own p
-own_is p prefix entity r h =
-    sym h.same_prefix ∙ ap (λ (x : PeerConfig). x.prefix)
-    (sym (numbered_is p.config.peers p.peer h.peer _ h.at_peer.0 h.at_peer.1))
+    → IsReader p.roster prefix entity (reader_at p.peer r) → prefix ≡ own p
+own_is p prefix entity r h = sym h.same_prefix
 
 -- a HEARTBEAT of this packet that was applied stands in it as the peer reads it
 pub record IsAppliedAt (p : Packet) (refused : Option ℕ) (w : Endpoint) (r : ℕ) (count : ℤ) : Type 0 where
@@ -165,12 +150,12 @@ pub record IsAppliedAt (p : Packet) (refused : Option ℕ) (w : Endpoint) (r : �
   pub at : Receiver
   pub heartbeat : HeartbeatBody
   pub stands : Stands p index at (Heartbeat heartbeat)
-  pub is_to : IsToReader p.config (own p) at heartbeat.reader_id heartbeat.writer_id w (reader_at p.peer r)
+  pub is_to : IsToReader p.roster (own p) at heartbeat.reader_id heartbeat.writer_id w (reader_at p.peer r)
   pub same_count : heartbeat.count ≡ count
   pub met : is_met p.rows r w ≡ true
 
 applied_at : (p : Packet) (report : Report) (w : Endpoint) (r : ℕ) (count : ℤ)
-    → IsApplied p.config (record { packet = p.bytes; rows = p.rows; report = report }) w (reader_at p.peer r) count
+    → IsApplied p.roster (record { packet = p.bytes; rows = p.rows; report = report }) w (reader_at p.peer r) count
     → IsAppliedAt p report.refused w r count
 applied_at p report w r count h =
     let prefix : h.own ≡ own p = own_is p h.own h.is_to.entity r h.is_to.to in
@@ -187,14 +172,14 @@ applied_at p report w r count h =
           (subst (λ (m : Message). StandsAt h.own (receiver_of m.prefix) m.submessages h.there.index h.at
           (Heartbeat h.heartbeat)) message h.there.stands);
       is_to =
-          subst (λ (x : GuidPrefix). IsToReader p.config x h.at h.heartbeat.reader_id h.heartbeat.writer_id w
+          subst (λ (x : GuidPrefix). IsToReader p.roster x h.at h.heartbeat.reader_id h.heartbeat.writer_id w
           (reader_at p.peer r)) prefix h.is_to;
       same_count = h.same_count;
       met = h.met;
     }
 
 applied_as : (p : Packet) (report : Report) (w : Endpoint) (r : ℕ) (count : ℤ) → IsAppliedAt p report.refused w r count
-    → IsApplied p.config (record { packet = p.bytes; rows = p.rows; report = report }) w (reader_at p.peer r) count
+    → IsApplied p.roster (record { packet = p.bytes; rows = p.rows; report = report }) w (reader_at p.peer r) count
 applied_as p report w r count h = record {
   own = own p;
   at = h.at;
@@ -213,14 +198,14 @@ newer x xs y h = front_or_rest x xs y h.0 h.1 h.2
 -- where this packet told the reader nothing newer up to here, no delivery did
 newest_by : (p : Packet) (report : Report) (w : Endpoint) (r : ℕ) (o : Option ℤ)
     → ((count : ℤ) → IsAppliedAt p report.refused w r count → is_later o count ≡ false)
-    → ((d : Delivery) (count : ℤ) → Contains p.before d → IsApplied p.config d w (reader_at p.peer r) count
+    → ((d : Delivery) (count : ℤ) → Contains p.before d → IsApplied p.roster d w (reader_at p.peer r) count
     → is_later o count ≡ false)
     → (d : Delivery) (count : ℤ) → Contains (record { packet = p.bytes; rows = p.rows; report = report } ∷ p.before) d
-    → IsApplied p.config d w (reader_at p.peer r) count → is_later o count ≡ false
+    → IsApplied p.roster d w (reader_at p.peer r) count → is_later o count ≡ false
 newest_by p report w r o here earlier d count among h =
     ⊎_elim (λ e. here count
     (applied_at p report w r count
-    (subst (λ (x : Delivery). IsApplied p.config x w (reader_at p.peer r) count) (sym e) h)))
+    (subst (λ (x : Delivery). IsApplied p.roster x w (reader_at p.peer r) count) (sym e) h)))
     (λ a. earlier d count a h)
     (newer (record { packet = p.bytes; rows = p.rows; report = report }) p.before d among)
 
@@ -271,13 +256,13 @@ to_next (suc k) (suc i) h = ⊎_elim (λ l. inl (omega (arith, l))) (λ e. inr (
 
 -- the submessage that a HEARTBEAT is
 past_it : (c : Coming) (h : HeartbeatBody) (w : Endpoint) (r : ℕ) (s : State) → Heartbeat h ≡ c.submessage
-    → IsToReader c.config c.own c.at h.reader_id h.writer_id w (reader_at c.peer r) → is_met c.rows r w ≡ true
+    → IsToReader c.roster c.own c.at h.reader_id h.writer_id w (reader_at c.peer r) → is_met c.rows r w ≡ true
     → IsPast c c.submessage r s → is_later (s.known.tracked w r).count h.count ≡ false
 past_it c h w r s is to met past = (subst (λ (x : Submessage). IsPast c x r s) (sym is) past) w to met
 
 abbrev pub coming_at : (p : Packet) (index : ℕ) (at : Receiver) (s : Submessage) → Stands p index at s → Coming
 coming_at p index at s stands = record {
-  config = p.config;
+  roster = p.roster;
   checked = p.checked;
   peer = p.peer;
   before = p.before;
@@ -308,8 +293,8 @@ next_backed p index at s ss rest stands new b past =
     let here : (a.at ≡ at) × (Heartbeat a.heartbeat ≡ s) =
     rest.only 0 a.at (Heartbeat a.heartbeat)
     (subst (λ (n : ℕ). Stands p n a.at (Heartbeat a.heartbeat)) (e ∙ zero_on index) a.stands) in
-    let to : IsToReader p.config (own p) at a.heartbeat.reader_id a.heartbeat.writer_id w (reader_at p.peer r) =
-    subst (λ (x : Receiver). IsToReader p.config (own p) x a.heartbeat.reader_id a.heartbeat.writer_id w
+    let to : IsToReader p.roster (own p) at a.heartbeat.reader_id a.heartbeat.writer_id w (reader_at p.peer r) =
+    subst (λ (x : Receiver). IsToReader p.roster (own p) x a.heartbeat.reader_id a.heartbeat.writer_id w
     (reader_at p.peer r)) here.0 a.is_to in
     inr (subst (λ (n : ℤ). is_later (new.known.tracked w r).count n ≡ false) a.same_count
     (past_it (coming_at p index at s stands) a.heartbeat w r new here.1 to a.met (past r has))))
@@ -321,7 +306,7 @@ next_backed p index at s ss rest stands new b past =
 -- the submessages from this index on were taken up
 pub record Up (p : Packet) (index : ℕ) (at : Receiver) (ss : List Submessage) (old : State) (moves : List Move)
     (refused : Option ℕ) (new : State) : Type 0 where
-  pub takes : TakesUp p.config (claimed p.config p.before p.bytes p.rows p.peer) p.peer
+  pub takes : TakesUp p.roster (claimed p.roster p.before p.bytes p.rows p.peer) p.peer
       (own p) index at ss old.part moves refused new.part
   pub backed : Backed p refused new
 
@@ -343,7 +328,7 @@ all_of p index at rest s b =
 
 -- what may need memory concerns the peer
 concerned : (p : Packet) (own : GuidPrefix) (at : Receiver) (s : Submessage) (old : State)
-    → MayNeedMemory p.config own p.peer at s old → Concerns p.config own p.peer at s
+    → MayNeedMemory p.roster own p.peer at s old → Concerns p.roster own p.peer at s
 concerned p own at (AckNack a) old h = (record { peer = p.peer; number = h.0 }, h.1, h.2, refl)
 concerned p own at (Data d) old h = (h.0, record { peer = p.peer; number = h.1 }, h.2, refl)
 concerned p own at (Gap g) old h = (h.0, record { peer = p.peer; number = h.1 }, h.2, refl)
@@ -353,7 +338,7 @@ concerned p own at s old h = absurd h
 follows_up : (p : Packet) (index : ℕ) (at : Receiver) (ss : List Submessage) → IsRest p index at ss
     → (old : State) (moves : List Move) (refused : Option ℕ) (dues : List Due) (new : State) → Backed p (Some index) old
     → SameMet p.rows old.part.rtps.readers
-    → FollowsMessage p.config (own p) p.peer index at ss old moves refused dues new
+    → FollowsMessage p.roster (own p) p.peer index at ss old moves refused dues new
     → Up p index at ss old moves refused new
 follows_up p index at [] rest old moves refused dues new b met h = record {
   takes = (h.1.0, h.0, ap (λ (s : State). s.part) h.1.2);
@@ -381,12 +366,12 @@ follows_up p index at (s ∷ ss) rest old moves refused dues new b met (inr h) =
 -- ---- the packet
 
 -- what is known is backed, before the packet is looked at
-pub begun : (p : Packet) (s : State) → IsBacked p.config p.peer (packets_of p.before) p.before s → Backed p (Some 0) s
+pub begun : (p : Packet) (s : State) → IsBacked p.roster p.peer (packets_of p.before) p.before s → Backed p (Some 0) s
 begun p s b = record {
   place = b.place;
   unknown = b.unknown;
   claimed = λ w r.
-      claimed_on p.config p.peer (packets_of p.before) (p.bytes ∷ packets_of p.before) w r (s.known.tracked w r)
+      claimed_on p.roster p.peer (packets_of p.before) (p.bytes ∷ packets_of p.before) w r (s.known.tracked w r)
       (b.claimed w r)
       (λ n c h. record {
         packet = h.packet;
@@ -409,7 +394,7 @@ begun p s b = record {
 
 -- the delivery is so reported
 pub reported : (p : Packet) (report : Report) (s : State) → Backed p report.refused s
-    → IsBacked p.config p.peer (p.bytes ∷ packets_of p.before)
+    → IsBacked p.roster p.peer (p.bytes ∷ packets_of p.before)
     (record { packet = p.bytes; rows = p.rows; report = report } ∷ p.before) s
 reported p report s b = record {
   place = b.place;
@@ -425,20 +410,20 @@ reported p report s b = record {
 }
 
 -- a packet that is no message tells nothing
-pub tells_nothing : (config : Config) (peer : ℕ) (before : List Delivery) (bytes : List ℕ) (old new : Part)
+pub tells_nothing : (roster : Roster) (peer : ℕ) (before : List Delivery) (bytes : List ℕ) (old new : Part)
     (report : Report) → IsNotTaken bytes old report new → (w : Endpoint) (r : ℕ) (count : ℤ)
-    → IsApplied config (record { packet = bytes; rows = old.rtps.readers; report = report }) w (reader_at peer r) count
+    → IsApplied roster (record { packet = bytes; rows = old.rtps.readers; report = report }) w (reader_at peer r) count
     → ⊥
-tells_nothing config peer before bytes old new report n w r count h =
+tells_nothing roster peer before bytes old new report n w r count h =
     n.unread h.there.message h.there.offset h.there.is_read
 
 -- what is known is backed, as it was
-pub unread_backed : (config : Config) (peer : ℕ) (before : List Delivery) (bytes : List ℕ) (old new : State)
+pub unread_backed : (roster : Roster) (peer : ℕ) (before : List Delivery) (bytes : List ℕ) (old new : State)
     (report : Report) → IsNotTaken bytes old.part report new.part → new.known ≡ old.known
-    → IsBacked config peer (packets_of before) before old
-    → IsBacked config peer (bytes ∷ packets_of before)
+    → IsBacked roster peer (packets_of before) before old
+    → IsBacked roster peer (bytes ∷ packets_of before)
     (record { packet = bytes; rows = old.part.rtps.readers; report = report } ∷ before) new
-unread_backed config peer before bytes old new report taken same b = record {
+unread_backed roster peer before bytes old new report taken same b = record {
   place =
       λ w r p e. ap (λ (k : Known). (k.tracked w r).place) same
       ∙ b.place w r p (ap (λ (q : Part). place_of (own_proxies q r) w) (sym taken.after) ∙ e);
@@ -446,8 +431,8 @@ unread_backed config peer before bytes old new report taken same b = record {
       λ w r e. ap (λ (k : Known). (k.tracked w r).place) same
       ∙ b.unknown w r (ap (λ (q : Part). place_of (own_proxies q r) w) (sym taken.after) ∙ e);
   claimed = λ w r.
-      subst (λ (k : Known). IsClaimed config peer (bytes ∷ packets_of before) w r (k.tracked w r)) (sym same)
-      (claimed_on config peer (packets_of before) (bytes ∷ packets_of before) w r (old.known.tracked w r)
+      subst (λ (k : Known). IsClaimed roster peer (bytes ∷ packets_of before) w r (k.tracked w r)) (sym same)
+      (claimed_on roster peer (packets_of before) (bytes ∷ packets_of before) w r (old.known.tracked w r)
       (b.claimed w r)
       (λ n c k. record {
         packet = k.packet;
@@ -463,8 +448,8 @@ unread_backed config peer before bytes old new report taken same b = record {
       }));
   newest = λ w r has d count among k.
       ap (λ (x : Known). is_later (x.tracked w r).count count) same
-      ∙ ⊎_elim (λ e. absurd (tells_nothing config peer before bytes old.part new.part report taken w r count
-      (subst (λ (x : Delivery). IsApplied config x w (reader_at peer r) count) (sym e) k)))
+      ∙ ⊎_elim (λ e. absurd (tells_nothing roster peer before bytes old.part new.part report taken w r count
+      (subst (λ (x : Delivery). IsApplied roster x w (reader_at peer r) count) (sym e) k)))
       (λ a. b.newest w r (subst (λ (q : Part). HasNumber q.rtps.readers r) taken.after has) d count a k)
       (newer (record { packet = bytes; rows = old.part.rtps.readers; report = report }) before d among);
   heard =
@@ -472,22 +457,22 @@ unread_backed config peer before bytes old new report taken same b = record {
       ∙ b.heard w r count (ap (λ (q : Part). heard_of (own_proxies q r) w) (sym taken.after) ∙ e);
 }
 
-pub record IsTakenUp (config : Config) (peer : ℕ) (before : List Delivery) (bytes : List ℕ) (old : State)
+pub record IsTakenUp (roster : Roster) (peer : ℕ) (before : List Delivery) (bytes : List ℕ) (old : State)
     (report : Report) (new : State) : Type 0 where
-  pub receives : Receives config (claimed config before bytes old.part.rtps.readers peer) peer bytes old.part report new.part
-  pub backed : IsBacked config peer (bytes ∷ packets_of before)
+  pub receives : Receives roster (claimed roster before bytes old.part.rtps.readers peer) peer bytes old.part report new.part
+  pub backed : IsBacked roster peer (bytes ∷ packets_of before)
       (record { packet = bytes; rows = old.part.rtps.readers; report = report } ∷ before) new
 
 -- What a peer does with a packet by the rules rests on what this packet and earlier ones claim, and what it knows then
 -- is what they claim.
-pub takes_packet : (config : Config) (peer : ℕ) (before : List Delivery) (bytes : List ℕ) (old : State)
-    (report : Report) (dues : List Due) (new : State) → IsRoster config.peers
-    → IsBacked config peer (packets_of before) before old → TakesPacket config peer bytes old report dues new
-    → IsTakenUp config peer before bytes old report new
-takes_packet config peer before bytes old report dues new checked b (inl h) =
+pub takes_packet : (roster : Roster) (peer : ℕ) (before : List Delivery) (bytes : List ℕ) (old : State)
+    (report : Report) (dues : List Due) (new : State) → IsRoster roster
+    → IsBacked roster peer (packets_of before) before old → TakesPacket roster peer bytes old report dues new
+    → IsTakenUp roster peer before bytes old report new
+takes_packet roster peer before bytes old report dues new checked b (inl h) =
     let p : Packet =
     record {
-      config = config;
+      roster = roster;
       checked = checked;
       peer = peer;
       before = before;
@@ -508,13 +493,13 @@ takes_packet config peer before bytes old report dues new checked b (inl h) =
       receives = inl (record { message = h.message; offset = h.offset; is_read = h.is_read; taken = up.takes });
       backed = reported p report new up.backed;
     }
-takes_packet config peer before bytes old report dues new checked b (inr h) =
-    record { receives = inr h.0; backed = unread_backed config peer before bytes old new report h.0 h.1 b }
+takes_packet roster peer before bytes old report dues new checked b (inr h) =
+    record { receives = inr h.0; backed = unread_backed roster peer before bytes old new report h.0 h.1 b }
 
 -- to the peer's readers an ACKNACK is nothing
 pub nothing_told : (c : Coming) (a : AckNackBody) (readers : List ℕ) (old : State) (made : List Move) (dues : List Due)
     (new : State)
-    → InTurn (ReaderTakes c.config c.own c.peer c.at (AckNack a)) readers old made dues new → (made ≡ []) × (new ≡ old)
+    → InTurn (ReaderTakes c.roster c.own c.peer c.at (AckNack a)) readers old made dues new → (made ≡ []) × (new ≡ old)
 nothing_told c a [] old made dues new h = (h.0, h.2)
 nothing_told c a (r ∷ rs) old made dues new h =
     let rest = nothing_told c a rs h.4 h.1 h.3 new h.8 in

@@ -5,12 +5,12 @@ use Rattle.std.specs.Option.{option_map}
 use Rattle.std.proofs.lemmas.Bool.Decides.{nat_tests}
 use Rattle.std.proofs.lemmas.Option.{same_Some}
 use Rattle.dds_base.specs.declared.change.Change.{Change}
-use Rattle.dds_base.specs.declared.config.Config.{Config}
+use Rattle.dds_protocol.specs.Roster.{IsRoster, Roster}
 use Rattle.dds_base.specs.declared.guid.EntityId.{EntityId}
 use Rattle.dds_base.specs.declared.guid.GuidPrefix.{GuidPrefix}
 use Rattle.dds_base.specs.declared.happening.Happening.{Happening}
 use Rattle.dds_base.specs.declared.happening.Happening.TheVariants.{Passed}
-use Rattle.dds_base.specs.Matched.{is_reliable, is_reliable_reader}
+use Rattle.dds_base.specs.Matched.{is_reliable}
 use Rattle.dds_base.specs.declared.qos.ReaderQos.{ReaderQos}
 use Rattle.dds_base.specs.Places.{Match, MayPassOver, PlaceWith, coming, GoesTo}
 use Rattle.dds_base.specs.Presence.{has_room}
@@ -38,22 +38,22 @@ use Rattle.dds_protocol.specs.Peer.{Delivery, claimed, packets_of, delivered_to}
 use Rattle.dds_protocol.specs.DueMessages.{Due}
 use Rattle.dds_protocol.specs.Protocol.{BeginsIf, BeginsWith, MeetsChange, MeetsGap, StartsAt, State, GoesBy, Goes, TakesChange, TakesGap, Idles, ReaderTakes, stands_to, with_tracked}
 use Rattle.dds_protocol.specs.Backed.{reader_at, IsClaimed, IsBacked}
-use Rattle.dds_protocol.specs.Roster.{IsRoster}
 use Rattle.dds_protocol.proofs.Attached.{SameMet, is_met}
 use Rattle.dds_protocol.proofs.Composed.{moves_on}
-use Rattle.dds_protocol.proofs.OwnGuids.{one_writer}
+use Rattle.dds_protocol.proofs.OneName.{one_writer}
 use Rattle.dds_protocol.proofs.Framing.{Frames, tracked_elsewhere, frames_at, frames_none, frames_on, has_reader, tracked_here}
 use Rattle.dds_protocol.proofs.Knowing.{data_claimed, gap_claimed}
 use Rattle.dds_protocol.proofs.Ways.{Went, goes_went, change_went, jumps_go}
 use Rattle.dds_protocol.proofs.Ruled.{backed_on, way_moves, goes_moves, way_frames, went_backed}
 use Rattle.dds_protocol.proofs.Policies.{at_reader-qos}
 use Rattle.dds_protocol.proofs.Growth.{AreMoves-grows, none_before}
+use Rattle.dds_protocol.proofs.KnownRows.{unknown_unmatched}
 use Rattle.dds_machine.proofs.Tables.{begun-hits, numbered-same, row-hits}
 
 -- a submessage of a packet, which comes to a peer after these deliveries, and found these rows
 pub record Coming : Type 0 where
-  pub config : Config
-  pub checked : IsRoster config.peers
+  pub roster : Roster
+  pub checked : IsRoster roster
   pub peer : ℕ
   pub before : List Delivery
   pub packet : List ℕ
@@ -62,10 +62,10 @@ pub record Coming : Type 0 where
   pub own : GuidPrefix
   pub at : Receiver
   pub submessage : Submessage
-  pub says : (claim : Claim) → Says config own at submessage claim → Claimed config (packet ∷ packets_of before) claim
+  pub says : (claim : Claim) → Says roster own at submessage claim → Claimed roster (packet ∷ packets_of before) claim
 
 abbrev pub grounds : Coming → Grounds
-grounds c = claimed c.config c.before c.packet c.rows c.peer c.index
+grounds c = claimed c.roster c.before c.packet c.rows c.peer c.index
 
 abbrev pub packets : Coming → List (List ℕ)
 packets c = c.packet ∷ packets_of c.before
@@ -74,7 +74,7 @@ abbrev pub deliveries : Coming → List Delivery
 deliveries c = delivered_to c.packet c.rows c.index ∷ c.before
 
 abbrev pub Backs : Coming → State → Type 0
-Backs c s = IsBacked c.config c.peer (packets c) (deliveries c) s
+Backs c s = IsBacked c.roster c.peer (packets c) (deliveries c) s
 
 -- the same are matched as when the packet came
 abbrev pub Met : Coming → State → Type 0
@@ -83,7 +83,7 @@ Met c s = SameMet c.rows s.part.rtps.readers
 -- the reader took no HEARTBEAT of the writer with a greater count than that of this one, if the two are matched
 abbrev pub IsPast : Coming → Submessage → ℕ → State → Type 0
 IsPast c (Heartbeat h) r s =
-    (w : Endpoint) → IsToReader c.config c.own c.at h.reader_id h.writer_id w (reader_at c.peer r)
+    (w : Endpoint) → IsToReader c.roster c.own c.at h.reader_id h.writer_id w (reader_at c.peer r)
     → is_met c.rows r w ≡ true → is_later (s.known.tracked w r).count h.count ≡ false
 IsPast c other r s = Unit {0}
 
@@ -91,7 +91,7 @@ IsPast c other r s = Unit {0}
 abbrev pub MovesIt : Coming → Submessage → ℕ → State → List Move → Type 0
 MovesIt c s r old made =
     (w : Endpoint) (publication number : ℕ) (change : Change)
-    → Says c.config c.own c.at s (ChangeIs w (reader_at c.peer r) number change)
+    → Says c.roster c.own c.at s (ChangeIs w (reader_at c.peer r) number change)
     → IsMatchedAt old.part w r publication number
     → GoesOver w r number made ⊎ HasNoRoom (grounds c) old.part w r publication number
 
@@ -149,7 +149,7 @@ held_there number c t at = by (t.slot number) refl
 -- so the place moves, or has no room
 moved_or_full : (c : Coming) (old : State) (w : Endpoint) (r number : ℕ) (change : Change) (made : List Move)
     (new : State) (h : Goes old w r (with_data number change (tracked_by old w r)) made new)
-    → IsClaimed c.config c.peer (packets c) w r (with_data number change (tracked_by old w r))
+    → IsClaimed c.roster c.peer (packets c) w r (with_data number change (tracked_by old w r))
     → (tracked_by old w r).place ≡ h.place → number ≡ h.place
     → GoesOver w r number made ⊎ HasNoRoom (grounds c) old.part w r h.publication number
 moved_or_full c old w r number change made new h k at same = by (nat_lt h.place h.to) refl
@@ -207,7 +207,7 @@ moved_or_full c old w r number change made new h k at same = by (nat_lt h.place 
 -- a jump goes over the change that it comes to, or there is no room for that at the place
 jumped_or_full : (c : Coming) (old : State) (w : Endpoint) (r number : ℕ) (change : Change) (made : List Move)
     (new : State) (h : GoesBy (λ match xs. Jumps match (tracked_by old w r) xs number change) old w r made new)
-    → Claimed c.config (packets c) (ChangeIs w (reader_at c.peer r) number change)
+    → Claimed c.roster (packets c) (ChangeIs w (reader_at c.peer r) number change)
     → (tracked_by old w r).place ≡ h.place → number ≡ h.place
     → GoesOver w r number made ⊎ HasNoRoom (grounds c) old.part w r h.publication number
 jumped_or_full c old w r number change made new h says at same =
@@ -248,20 +248,20 @@ jumped_or_full c old w r number change made new h says at same =
 
 -- the one writer of this name
 pub writer_is : (c : Coming) (reader_id writer_id : EntityId) (w v : Endpoint) (r : ℕ)
-    → IsToReader c.config c.own c.at reader_id writer_id w (reader_at c.peer r)
-    → IsToReader c.config c.own c.at reader_id writer_id v (reader_at c.peer r) → w ≡ v
+    → IsToReader c.roster c.own c.at reader_id writer_id w (reader_at c.peer r)
+    → IsToReader c.roster c.own c.at reader_id writer_id v (reader_at c.peer r) → w ≡ v
 writer_is c reader_id writer_id w v r a b =
-    one_writer c.config c.at.source_guid_prefix writer_id w v c.checked a.from b.from
+    one_writer c.roster c.at.source_guid_prefix writer_id w v c.checked a.from b.from
 
 -- what a reader does on the ground of a DATA or a GAP: its place goes on, and no HEARTBEAT is told
 went_taken : (c : Coming) (s : Submessage) (r : ℕ) (old : State) (w : Endpoint) (t : Tracked) (made : List Move)
     (new : State) → Backs c old → t.count ≡ (tracked_by old w r).count
-    → IsClaimed c.config c.peer (packets c) w r t → Went old w r t made new
+    → IsClaimed c.roster c.peer (packets c) w r t → Went old w r t made new
     → AreMoves (grounds c) old.part made new.part → IsPast c s r new
     → MovesIt c s r old made → IsTakenAt c s r old made new
 went_taken c s r old w t made new b count k h moves past over = record {
   moves = moves;
-  backed = went_backed c.config c.peer (packets c) (deliveries c) old w r t made new b count k h;
+  backed = went_backed c.roster c.peer (packets c) (deliveries c) old w r t made new b count k h;
   writer = w;
   frames = way_frames old w r made new h;
   past = past;
@@ -270,16 +270,16 @@ went_taken c s r old w t made new b count k h moves past over = record {
 
 goes_taken : (c : Coming) (s : Submessage) (r : ℕ) (old : State) (w : Endpoint) (t : Tracked) (made : List Move)
     (new : State) → Backs c old → t.place ≡ (tracked_by old w r).place → t.count ≡ (tracked_by old w r).count
-    → IsClaimed c.config c.peer (packets c) w r t → (h : Goes old w r t made new) → IsPast c s r new
+    → IsClaimed c.roster c.peer (packets c) w r t → (h : Goes old w r t made new) → IsPast c s r new
     → MovesIt c s r old made → IsTakenAt c s r old made new
 goes_taken c s r old w t made new b place count k h past over =
     went_taken c s r old w t made new b count k (goes_went old w r t made new h)
-    (goes_moves c.config c.before c.packet c.rows c.peer c.index old w r t made new k h
+    (goes_moves c.roster c.before c.packet c.rows c.peer c.index old w r t made new k h
     (place ∙ b.place w r h.place h.matched.at)) past over
 
 -- where the place of the writer that a DATA is of moves, or has no room, so it is of each writer that it tells of
 moves_it : (c : Coming) (d : DataBody) (r : ℕ) (old : State) (w : Endpoint) (made : List Move) (publication place : ℕ)
-    → IsToReader c.config c.own c.at d.reader_id d.writer_id w (reader_at c.peer r)
+    → IsToReader c.roster c.own c.at d.reader_id d.writer_id w (reader_at c.peer r)
     → IsMatchedAt old.part w r publication place
     → (d.writer_sn ≡ place
     → GoesOver w r d.writer_sn made ⊎ HasNoRoom (grounds c) old.part w r publication d.writer_sn)
@@ -297,24 +297,24 @@ moves_it c d r old w made publication place to at here v p number ch told matche
 
 -- what the packet claims by a DATA
 data_says : (c : Coming) (d : DataBody) → c.submessage ≡ Data d → (w : Endpoint) (r : ℕ)
-    → IsToReader c.config c.own c.at d.reader_id d.writer_id w (reader_at c.peer r)
-    → Claimed c.config (packets c) (ChangeIs w (reader_at c.peer r) d.writer_sn (change_in d.content c.at.timestamp))
+    → IsToReader c.roster c.own c.at d.reader_id d.writer_id w (reader_at c.peer r)
+    → Claimed c.roster (packets c) (ChangeIs w (reader_at c.peer r) d.writer_sn (change_in d.content c.at.timestamp))
 data_says c d is w r to =
     let change : Change = change_in d.content c.at.timestamp in
     c.says (ChangeIs w (reader_at c.peer r) d.writer_sn change)
-    (subst (λ (s : Submessage). Says c.config c.own c.at s (ChangeIs w (reader_at c.peer r) d.writer_sn change))
+    (subst (λ (s : Submessage). Says c.roster c.own c.at s (ChangeIs w (reader_at c.peer r) d.writer_sn change))
     (sym is) (to, refl, refl))
 
 -- a reliable reader holds it
 data_held : (c : Coming) (d : DataBody) → c.submessage ≡ Data d
     → (r : ℕ) (old : State) (w : Endpoint) (made : List Move) (new : State) → Backs c old
-    → IsToReader c.config c.own c.at d.reader_id d.writer_id w (reader_at c.peer r)
+    → IsToReader c.roster c.own c.at d.reader_id d.writer_id w (reader_at c.peer r)
     → Goes old w r (with_data d.writer_sn (change_in d.content c.at.timestamp) (tracked_by old w r)) made new
     → IsTakenAt c (Data d) r old made new
 data_held c d is r old w made new b to goes =
     let change : Change = change_in d.content c.at.timestamp in
-    let k : IsClaimed c.config c.peer (packets c) w r (with_data d.writer_sn change (tracked_by old w r)) =
-    data_claimed c.config c.peer (packets c) w r d.writer_sn change (tracked_by old w r) (b.claimed w r)
+    let k : IsClaimed c.roster c.peer (packets c) w r (with_data d.writer_sn change (tracked_by old w r)) =
+    data_claimed c.roster c.peer (packets c) w r d.writer_sn change (tracked_by old w r) (b.claimed w r)
     (data_says c d is w r to) in
     goes_taken c (Data d) r old w (with_data d.writer_sn change (tracked_by old w r)) made new b refl refl k goes tt
     (moves_it c d r old w made goes.publication goes.place to goes.matched
@@ -324,7 +324,7 @@ data_held c d is r old w made new b to goes =
 -- a best-effort reader jumps to it
 data_jumped : (c : Coming) (d : DataBody) → c.submessage ≡ Data d
     → (r : ℕ) (old : State) (w : Endpoint) (made : List Move) (new : State) → Backs c old
-    → IsToReader c.config c.own c.at d.reader_id d.writer_id w (reader_at c.peer r)
+    → IsToReader c.roster c.own c.at d.reader_id d.writer_id w (reader_at c.peer r)
     → TakesChange false old w r d.writer_sn (change_in d.content c.at.timestamp) made new
     → IsTakenAt c (Data d) r old made new
 data_jumped c d is r old w made new b to takes =
@@ -365,7 +365,7 @@ heard_begun to (Some p) = refl
 pub record IsStarted (c : Coming) (w : Endpoint) (r : ℕ) (old : State) (made : List Move) (new : State) : Type 0 where
   pub moves : AreMoves (grounds c) old.part made new.part
   pub frames : Frames old w r new
-  pub claimed : IsClaimed c.config c.peer (packets c) w r (tracked_by new w r)
+  pub claimed : IsClaimed c.roster c.peer (packets c) w r (tracked_by new w r)
   pub place : (p : ℕ) → place_of (own_proxies new.part r) w ≡ Some p → (tracked_by new w r).place ≡ p
   pub unknown : place_of (own_proxies new.part r) w ≡ None → (tracked_by new w r).place ≡ (tracked_by old w r).place
   pub count : (tracked_by new w r).count ≡ (tracked_by old w r).count
@@ -373,14 +373,14 @@ pub record IsStarted (c : Coming) (w : Endpoint) (r : ℕ) (old : State) (made :
       → heard_of (own_proxies old.part r) w ≡ Some (Some n)
 
 pub not_started : (c : Coming) (w : Endpoint) (r : ℕ) (old : State) (made : List Move) (new : State)
-    → IsClaimed c.config c.peer (packets c) w r (tracked_by old w r)
+    → IsClaimed c.roster c.peer (packets c) w r (tracked_by old w r)
     → ((p : ℕ) → place_of (own_proxies old.part r) w ≡ Some p → (tracked_by old w r).place ≡ p)
     → (made ≡ []) × (new ≡ old) → IsStarted c w r old made new
 not_started c w r old made new k place h = record {
   moves = subst (λ (ms : List Move). AreMoves (grounds c) old.part ms new.part) (sym h.0)
       (ap (λ (s : State). s.part) h.1);
   frames = subst (λ (s : State). Frames old w r s) (sym h.1) (frames_none old w r);
-  claimed = subst (λ (s : State). IsClaimed c.config c.peer (packets c) w r (tracked_by s w r)) (sym h.1) k;
+  claimed = subst (λ (s : State). IsClaimed c.roster c.peer (packets c) w r (tracked_by s w r)) (sym h.1) k;
   place = λ p e.
       ap (λ (s : State). (tracked_by s w r).place) h.1
       ∙ place p (ap (λ (s : State). place_of (own_proxies s.part r) w) (sym h.1) ∙ e);
@@ -390,7 +390,7 @@ not_started c w r old made new k place h = record {
 }
 
 pub starts_at : (c : Coming) (w : Endpoint) (r number : ℕ) (old : State) (made : List Move) (new : State)
-    → IsClaimed c.config c.peer (packets c) w r (tracked_by old w r)
+    → IsClaimed c.roster c.peer (packets c) w r (tracked_by old w r)
     → ((p : ℕ) → place_of (own_proxies old.part r) w ≡ Some p → (tracked_by old w r).place ≡ p)
     → ((n : ℕ) → 1 ≤ n → n < number → MayPassOver (as_to (grounds c) w r) (own_reader old.part r).qos n)
     → StartsAt old w r number made new → IsStarted c w r old made new
@@ -426,7 +426,7 @@ starts_at c w r number old made new k place may h =
           (frames_at old w r (λ (p : WriterProxy). record p { place = to; how = Begun }) (λ p. refl)
           (own_reader old.part r).happened (with_tracked old.known w r t) there
           (λ v j apart. tracked_elsewhere old.known w r t v j apart));
-      claimed = subst (λ (x : Tracked). IsClaimed c.config c.peer (packets c) w r x) (sym known_is) (record {
+      claimed = subst (λ (x : Tracked). IsClaimed c.roster c.peer (packets c) w r x) (sym known_is) (record {
         from = omega (arith, from, at, further);
         change = λ n ch low e. k.change n ch (omega (arith, at, further, low)) e;
         pass = λ n low e. k.pass n (omega (arith, at, further, low)) e;
@@ -452,7 +452,7 @@ starts_at c w r number old made new k place may h =
 started_backed : (c : Coming) (w : Endpoint) (r : ℕ) (old : State) (made : List Move) (new : State) → Backs c old
     → HasNumber old.part.rtps.readers r → IsStarted c w r old made new → Backs c new
 started_backed c w r old made new b there s =
-    backed_on c.config c.peer (packets c) (deliveries c) w r old new s.frames b (record {
+    backed_on c.roster c.peer (packets c) (deliveries c) w r old new s.frames b (record {
       place = s.place;
       unknown = λ e.
           s.unknown e
@@ -466,7 +466,7 @@ started_backed c w r old made new b there s =
 
 -- a place that has not begun is at no number of which a DATA may speak
 not_begun : (c : Coming) (d : DataBody) (r : ℕ) (old : State) (w : Endpoint) (made : List Move)
-    → IsToReader c.config c.own c.at d.reader_id d.writer_id w (reader_at c.peer r)
+    → IsToReader c.roster c.own c.at d.reader_id d.writer_id w (reader_at c.peer r)
     → (stands_to old w r ≡ Begun → ⊥) → MovesIt c (Data d) r old made
 not_begun c d r old w made to other v p n ch told matched =
     let one : v ≡ w = writer_is c d.reader_id d.writer_id v w r told.0 to in
@@ -475,7 +475,7 @@ not_begun c d r old w made to other v p n ch told matched =
 -- a best-effort reader that waited begins with the change
 data_begun : (c : Coming) (d : DataBody) → c.submessage ≡ Data d
     → (r : ℕ) (old : State) (w : Endpoint) (made : List Move) (new : State) → Backs c old
-    → IsToReader c.config c.own c.at d.reader_id d.writer_id w (reader_at c.peer r)
+    → IsToReader c.roster c.own c.at d.reader_id d.writer_id w (reader_at c.peer r)
     → BeginsWith old w r d.writer_sn (change_in d.content c.at.timestamp) made new
     → IsTakenAt c (Data d) r old made new
 data_begun c d is r old w made new b to k = record {
@@ -515,9 +515,9 @@ data_begun c d is r old w made new b to k = record {
 
 pub data_taken : (c : Coming) (d : DataBody) → c.submessage ≡ Data d
     → (r : ℕ) (old : State) (made : List Move) (dues : List Due) (new : State) → Backs c old
-    → ReaderTakes c.config c.own c.peer c.at (Data d) r old made dues new → IsTakenAt c (Data d) r old made new
+    → ReaderTakes c.roster c.own c.peer c.at (Data d) r old made dues new → IsTakenAt c (Data d) r old made new
 data_taken c d is r old made dues new b (inl h) =
-    by (stands_to old h.0 r) refl (is_reliable_reader h.1.to.end) h.2.0
+    by (stands_to old h.0 r) refl (c.roster.is_reliable (reader_at c.peer r)) h.3.0
   where
     change : Change
     change = change_in d.content c.at.timestamp
@@ -525,7 +525,7 @@ data_taken c d is r old made dues new b (inl h) =
     nothing : (how : Attachment) → stands_to old h.0 r ≡ how → (how ≡ Begun → ⊥) → (made ≡ []) × (new ≡ old)
         → IsTakenAt c (Data d) r old made new
     nothing how e other idle =
-        nothing_taken c (Data d) r old made dues new b (idle.0, h.2.1, idle.1) tt
+        nothing_taken c (Data d) r old made dues new b (idle.0, h.3.1, idle.1) tt
         (not_begun c d r old h.0 [] h.1 (λ begun. other (sym e ∙ begun)))
 
     begins : (comes_there : Bool) → stands_to old h.0 r ≡ Waiting
@@ -544,7 +544,8 @@ data_taken c d is r old made dues new b (inl h) =
     by Away e reliable idle = nothing Away e (λ q. cc) idle
 data_taken c d is r old made dues new b (inr h) =
     nothing_taken c (Data d) r old made dues new b h.1 tt
-    (λ w publication number change told matched. absurd (h.0 w told.0))
+    (λ w publication number change told matched.
+    absurd (unknown_unmatched old.part r w publication number (h.0 w told.0) matched))
 
 -- ---- a GAP
 
@@ -562,30 +563,30 @@ in_gap start list n h = by (nat_le start n) (nat_lt n list.base) refl refl
 
 pub gap_taken : (c : Coming) (g : GapBody) → c.submessage ≡ Gap g
     → (r : ℕ) (old : State) (made : List Move) (dues : List Due) (new : State) → Backs c old
-    → ReaderTakes c.config c.own c.peer c.at (Gap g) r old made dues new → IsTakenAt c (Gap g) r old made new
-gap_taken c g is r old made dues new b (inl h) = so (stands_to old h.0 r) h.2.0
+    → ReaderTakes c.roster c.own c.peer c.at (Gap g) r old made dues new → IsTakenAt c (Gap g) r old made new
+gap_taken c g is r old made dues new b (inl h) = so (stands_to old h.0 r) h.3.0
   where
     nothing : (made ≡ []) × (new ≡ old) → IsTakenAt c (Gap g) r old made new
     nothing idle =
-        nothing_taken c (Gap g) r old made dues new b (idle.0, h.2.1, idle.1) tt
+        nothing_taken c (Gap g) r old made dues new b (idle.0, h.3.1, idle.1) tt
         (λ v publication number ch told matched. absurd told)
 
-    by : (reliable : Bool) → is_reliable_reader h.1.to.end ≡ reliable → TakesGap reliable old h.0 r g made new
+    by : (reliable : Bool) → c.roster.is_reliable (reader_at c.peer r) ≡ reliable → TakesGap reliable old h.0 r g made new
         → IsTakenAt c (Gap g) r old made new
     by true reliable goes =
         let w : Endpoint = h.0 in
-        let k : IsClaimed c.config c.peer (packets c) w r (with_gap g.gap_start g.gap_list (tracked_by old w r)) =
-        gap_claimed c.config c.peer (packets c) w r g.gap_start g.gap_list (tracked_by old w r) (b.claimed w r)
+        let k : IsClaimed c.roster c.peer (packets c) w r (with_gap g.gap_start g.gap_list (tracked_by old w r)) =
+        gap_claimed c.roster c.peer (packets c) w r g.gap_start g.gap_list (tracked_by old w r) (b.claimed w r)
         (λ n least named. c.says (MayPass w (reader_at c.peer r) n)
-        (subst (λ (s : Submessage). Says c.config c.own c.at s (MayPass w (reader_at c.peer r) n)) (sym is)
+        (subst (λ (s : Submessage). Says c.roster c.own c.at s (MayPass w (reader_at c.peer r) n)) (sym is)
         (record { is_to = h.1; reliable = reliable }, least, in_gap g.gap_start g.gap_list n named))) in
         goes_taken c (Gap g) r old w (with_gap g.gap_start g.gap_list (tracked_by old w r)) made new b refl refl k goes
         tt (λ v publication number ch told matched. absurd told)
     by false other idle = nothing idle
 
-    so : (how : Attachment) → MeetsGap how (is_reliable_reader h.1.to.end) old h.0 r g made new
+    so : (how : Attachment) → MeetsGap how (c.roster.is_reliable (reader_at c.peer r)) old h.0 r g made new
         → IsTakenAt c (Gap g) r old made new
-    so Begun takes = by (is_reliable_reader h.1.to.end) refl takes
+    so Begun takes = by (c.roster.is_reliable (reader_at c.peer r)) refl takes
     so Waiting idle = nothing idle
     so Away idle = nothing idle
 gap_taken c g is r old made dues new b (inr h) =

@@ -182,7 +182,7 @@ turn_more c s first count old mid new made later all is one rest = record {
 
 pub reader_taken : (c : Coming) (s : Submessage) → c.submessage ≡ s → IsTelling s
     → (r : ℕ) (old : State) (made : List Move) (dues : List Due) (new : State) → Backs c old → Met c old
-    → ReaderTakes c.config c.own c.peer c.at s r old made dues new → IsTakenAt c s r old made new
+    → ReaderTakes c.roster c.own c.peer c.at s r old made dues new → IsTakenAt c s r old made new
 reader_taken c (Data d) is telling r old made dues new b met h = data_taken c d is r old made dues new b h
 reader_taken c (Gap g) is telling r old made dues new b met h = gap_taken c g is r old made dues new b h
 reader_taken c (Heartbeat h) is telling r old made dues new b met k = heartbeat_taken c h is r old made dues new b met k
@@ -203,7 +203,7 @@ met_on c old made new met moves r w = moves_met (grounds c) old.part made new.pa
 
 pub readers_taken : (c : Coming) (s : Submessage) → c.submessage ≡ s → IsTelling s
     → (first count : ℕ) (old : State) (made : List Move) (dues : List Due) (new : State) → Backs c old → Met c old
-    → InTurn (ReaderTakes c.config c.own c.peer c.at s) (numbers_from first count) old made dues new
+    → InTurn (ReaderTakes c.roster c.own c.peer c.at s) (numbers_from first count) old made dues new
     → Turn c s first count old made new
 readers_taken c s is telling first zero old made dues new b met h = turn_none c s first old made new b h.0 h.2
 readers_taken c s is telling first (suc count) old made dues new b met h =

@@ -43,7 +43,7 @@ taken_on c old mid new made later all is one rest = record {
 
 acknack_takes : (c : Coming) (a : AckNackBody) → c.submessage ≡ AckNack a
     → (writer : ℕ) (reader : Endpoint) (old : State) (made : List Move) (dues : List Due) (new : State) → Backs c old
-    → (is : IsToWriter c.config c.own c.at a.reader_id a.writer_id (record { peer = c.peer; number = writer }) reader)
+    → (is : IsToWriter c.roster c.own c.at a.reader_id a.writer_id (record { peer = c.peer; number = writer }) reader)
     → TakesAckNack c.own c.at old writer reader is.entity a made dues new → IsTaken c old made new
 acknack_takes c a this writer reader old made dues new b is h = record {
   moves = by (nat_lt h.acknowledged base) refl;
@@ -81,7 +81,7 @@ acknack_takes c a this writer reader old made dues new b is h = record {
           matched = h.matched;
           forward = forward;
           has_place = c.says (PlaceReached (record { peer = c.peer; number = writer }) reader base)
-              (subst (λ (s : Submessage). Says c.config c.own c.at s
+              (subst (λ (s : Submessage). Says c.roster c.own c.at s
               (PlaceReached (record { peer = c.peer; number = writer }) reader base)) (sym this) (is, refl));
           after = part ∙ ap (λ (n : ℕ). at_writer old.part writer (acknowledging w reader n)) most;
         } in
@@ -97,7 +97,7 @@ acknack_takes c a this writer reader old made dues new b is h = record {
 -- one that acknowledges what was never made claims that place
 stranger_said : (c : Coming) (a : AckNackBody) → c.submessage ≡ AckNack a
     → (writer : ℕ) (reader : Endpoint) (old : State) (made : List Move) (new : State) → Backs c old
-    → IsStranger c.config c.own c.peer c.at a writer reader old → made ≡ Strange writer reader ∷ [] → new ≡ old
+    → IsStranger c.roster c.own c.peer c.at a writer reader old → made ≡ Strange writer reader ∷ [] → new ≡ old
     → IsTaken c old made new
 stranger_said c a this writer reader old made new b s m n =
     let claim = PlaceReached (record { peer = c.peer; number = writer }) reader a.reader_sn_state.base in
@@ -105,7 +105,7 @@ stranger_said c a this writer reader old made new b s m n =
       acknowledged = s.acknowledged;
       matched = s.matched;
       base = a.reader_sn_state.base;
-      has_place = c.says claim (subst (λ (x : Submessage). Says c.config c.own c.at x claim) (sym this) (s.is, refl));
+      has_place = c.says claim (subst (λ (x : Submessage). Says c.roster c.own c.at x claim) (sym this) (s.is, refl));
       beyond = s.beyond;
       after = refl;
     } in
@@ -118,7 +118,7 @@ stranger_said c a this writer reader old made new b s m n =
 
 pub writer_taken : (c : Coming) (a : AckNackBody) → c.submessage ≡ AckNack a
     → (writer : ℕ) (reader : Endpoint) (old : State) (made : List Move) (dues : List Due) (new : State) → Backs c old
-    → WriterTakes c.config c.own c.peer c.at a writer reader old made dues new → IsTaken c old made new
+    → WriterTakes c.roster c.own c.peer c.at a writer reader old made dues new → IsTaken c old made new
 writer_taken c a this writer reader old made dues new b (inl h) =
     acknack_takes c a this writer reader old made dues new b h.0 h.2
 writer_taken c a this writer reader old made dues new b (inr h) =
@@ -128,7 +128,7 @@ writer_taken c a this writer reader old made dues new b (inr h) =
 rows_taken : (c : Coming) (a : AckNackBody) → c.submessage ≡ AckNack a
     → (writer : ℕ) (rows : List ReaderProxy) (old : State) (made : List Move) (dues : List Due) (new : State)
     → Backs c old
-    → InTurn (λ (p : ReaderProxy). WriterTakes c.config c.own c.peer c.at a writer p.reader) rows old made dues new
+    → InTurn (λ (p : ReaderProxy). WriterTakes c.roster c.own c.peer c.at a writer p.reader) rows old made dues new
     → IsTaken c old made new
 rows_taken c a this writer [] old made dues new b h = taken_none c old made new b h.0 h.2
 rows_taken c a this writer (p ∷ ps) old made dues new b h =
@@ -137,7 +137,7 @@ rows_taken c a this writer (p ∷ ps) old made dues new b h =
 
 pub writers_taken : (c : Coming) (a : AckNackBody) → c.submessage ≡ AckNack a
     → (start : State) (writers : List ℕ) (old : State) (made : List Move) (dues : List Due) (new : State) → Backs c old
-    → InTurn (λ (writer : ℕ). InTurn (λ (p : ReaderProxy). WriterTakes c.config c.own c.peer c.at a writer p.reader)
+    → InTurn (λ (writer : ℕ). InTurn (λ (p : ReaderProxy). WriterTakes c.roster c.own c.peer c.at a writer p.reader)
     (own_writer start.part writer).readers) writers old made dues new → IsTaken c old made new
 writers_taken c a this start [] old made dues new b h = taken_none c old made new b h.0 h.2
 writers_taken c a this start (w ∷ ws) old made dues new b h =

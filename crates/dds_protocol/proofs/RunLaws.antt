@@ -1,7 +1,7 @@
 -- Runs of peers are runs of the machine; what a writer that keeps all has dropped, and that its policy stays; that lists
 -- and places grow, and what is owed never goes back.
 use Rattle.std.proofs.Common.{◌≡◌, ℕ, true, false, List, [], ◌∷◌, length, subst, ap, sym, ◌∙◌, inl, inr, arith, ◌≤◌, length-append}
-use Rattle.dds_base.specs.declared.config.Config.{Config}
+use Rattle.dds_protocol.specs.Roster.{Roster}
 use Rattle.dds_base.specs.declared.qos.HistoryQos.{HistoryQos}
 use Rattle.dds_base.specs.declared.qos.HistoryQos.TheVariants.{KeepAll}
 use Rattle.dds_base.specs.Kept.{is_dropped, is_dropped_by}
@@ -25,71 +25,71 @@ use Rattle.dds_protocol.proofs.Composed.{composes}
 use Rattle.dds_protocol.proofs.Resumed.{as_moves}
 
 -- no packet that was sent is forgotten
-sent_more : (config : Config) (tests : AllTests) (old new : WorldState) (e : WorldEvent) (r : Reply)
-    → WorldStep config tests old e r new → length old.sent ≤ length new.sent
-sent_more config tests old new (world.Call peer call) r (inl h) =
+sent_more : (roster : Roster) (tests : AllTests) (old new : WorldState) (e : WorldEvent) (r : Reply)
+    → WorldStep roster tests old e r new → length old.sent ≤ length new.sent
+sent_more roster tests old new (world.Call peer call) r (inl h) =
     let more = length-append old.sent h.posted in let is = ap (λ (w : WorldState). length w.sent) h.changed in
     omega (arith, more, is)
-sent_more config tests old new (world.Call peer call) r (inr h) =
+sent_more roster tests old new (world.Call peer call) r (inr h) =
     let is = ap (λ (w : WorldState). length w.sent) h.1.after in omega (arith, is)
-sent_more config tests old new (world.Tick peer now) r (inl h) =
+sent_more roster tests old new (world.Tick peer now) r (inl h) =
     let more = length-append old.sent h.posted in let is = ap (λ (w : WorldState). length w.sent) h.changed in
     omega (arith, more, is)
-sent_more config tests old new (world.Tick peer now) r (inr h) =
+sent_more roster tests old new (world.Tick peer now) r (inr h) =
     let is = ap (λ (w : WorldState). length w.sent) h.1.after in omega (arith, is)
-sent_more config tests old new (world.Deliver peer n) r (inl h) =
+sent_more roster tests old new (world.Deliver peer n) r (inl h) =
     let s = h.3 in
     let more = length-append old.sent s.posted in let is = ap (λ (w : WorldState). length w.sent) s.changed in
     omega (arith, more, is)
-sent_more config tests old new (world.Deliver peer n) r (inr h) =
+sent_more roster tests old new (world.Deliver peer n) r (inr h) =
     let is = ap (λ (w : WorldState). length w.sent) h.1.after in omega (arith, is)
-sent_more config tests old new (world.Resume peer k) r (inl h) =
+sent_more roster tests old new (world.Resume peer k) r (inl h) =
     let more = length-append old.sent h.posted in let is = ap (λ (w : WorldState). length w.sent) h.changed in
     omega (arith, more, is)
-sent_more config tests old new (world.Resume peer k) r (inr h) =
+sent_more roster tests old new (world.Resume peer k) r (inr h) =
     let is = ap (λ (w : WorldState). length w.sent) h.1.after in omega (arith, is)
 
-pub composes_runs : (config : Config) (tests : AllTests) (old new : WorldState) (events : List WorldEvent)
-    (replies : List Reply) → Sound config old → WorldRun config tests old events replies new
+pub composes_runs : (roster : Roster) (tests : AllTests) (old new : WorldState) (events : List WorldEvent)
+    (replies : List Reply) → Sound roster old → WorldRun roster tests old events replies new
     → Run tests (length old.sent) (machine_of old) events replies (length new.sent) (machine_of new)
-    × Sound config new
-composes_runs config tests old new [] [] sound run = (
+    × Sound roster new
+composes_runs roster tests old new [] [] sound run = (
   (ap machine_of run, ap (λ (w : WorldState). length w.sent) run),
-  subst (λ (w : WorldState). Sound config w) (sym run) sound,
+  subst (λ (w : WorldState). Sound roster w) (sym run) sound,
 )
-composes_runs config tests old new (e ∷ es) (r ∷ rs) sound run =
-    let s = composes config tests old run.0 e r sound run.1 in
+composes_runs roster tests old new (e ∷ es) (r ∷ rs) sound run =
+    let s = composes roster tests old run.0 e r sound run.1 in
     let t =
-    composes_runs config tests (world_ended old e run.0) new es rs (ended_sound config old e run.0 s.2) run.2 in (
+    composes_runs roster tests (world_ended old e run.0) new es rs (ended_sound roster old e run.0 s.2) run.2 in (
       (
         machine_of run.0,
         length run.0.sent,
         s.0,
-        sent_more config tests old run.0 e r run.1,
+        sent_more roster tests old run.0 e r run.1,
         subst (λ (m : Machine). Run tests (length run.0.sent) m es rs (length new.sent) (machine_of new))
             (machine_ends old e run.0) t.0,
       ),
       t.1,
     )
-composes_runs config tests old new [] (r ∷ rs) sound run = absurd run
-composes_runs config tests old new (e ∷ es) [] sound run = absurd run
+composes_runs roster tests old new [] (r ∷ rs) sound run = absurd run
+composes_runs roster tests old new (e ∷ es) [] sound run = absurd run
 
 -- a run by the rules is a run of the machine
-pub machine_runs : (config : Config) (tests : AllTests) (old new : WorldState) (unsent last : ℕ)
-    (events : List WorldEvent) (replies : List Reply) → RuledRun config tests old unsent events replies new last
+pub machine_runs : (roster : Roster) (tests : AllTests) (old new : WorldState) (unsent last : ℕ)
+    (events : List WorldEvent) (replies : List Reply) → RuledRun roster tests old unsent events replies new last
     → Run tests (length old.sent) (machine_of old) events replies (length new.sent) (machine_of new)
-machine_runs config tests old new unsent last [] [] run =
+machine_runs roster tests old new unsent last [] [] run =
     (ap machine_of run.0, ap (λ (w : WorldState). length w.sent) run.0)
-machine_runs config tests old new unsent last (e ∷ es) (r ∷ rs) run = (
+machine_runs roster tests old new unsent last (e ∷ es) (r ∷ rs) run = (
   machine_of run.0,
   length run.0.sent,
   run.2.machine,
-  sent_more config tests old run.0 e r run.2.ruled.step,
+  sent_more roster tests old run.0 e r run.2.ruled.step,
   subst (λ (m : Machine). Run tests (length run.0.sent) m es rs (length new.sent) (machine_of new))
-      (machine_ends old e run.0) (machine_runs config tests (world_ended old e run.0) new run.1 last es rs run.3),
+      (machine_ends old e run.0) (machine_runs roster tests (world_ended old e run.0) new run.1 last es rs run.3),
 )
-machine_runs config tests old new unsent last [] (r ∷ rs) run = absurd run
-machine_runs config tests old new unsent last (e ∷ es) [] run = absurd run
+machine_runs roster tests old new unsent last [] (r ∷ rs) run = absurd run
+machine_runs roster tests old new unsent last (e ∷ es) [] run = absurd run
 
 -- a writer that keeps all has dropped nothing
 pub keeps_all : (policy : HistoryQos) (m : Machine) (w : Endpoint) (n : ℕ) → (writer_at m w).policy ≡ policy

@@ -3,12 +3,13 @@
 use Rattle.std.proofs.Common.{◌≡◌, ℕ, Bool, Option, List, [], map, length, refl, subst, ap, sym, ◌∙◌, ⊎_elim, arith}
 use Rattle.std.specs.Prelude.{pos, ◌≤ℤ◌, Contains}
 use Rattle.dds_base.specs.declared.change.Change.{Change}
-use Rattle.dds_base.specs.declared.config.Config.{Config}
+use Rattle.dds_protocol.specs.Roster.{Roster}
 use Rattle.dds_base.specs.declared.entity.Entity.{Entity}
 use Rattle.dds_base.specs.declared.qos.ReaderQos.{ReaderQos}
 use Rattle.dds_notices.specs.Listeners.{Place}
 use Rattle.dds_base.specs.declared.endpoint.Endpoint.{Endpoint}
 use Rattle.dds_protocol.specs.declared.event.Packet.{Packet}
+use Rattle.dds_base.specs.Matched.{is_reliable}
 use Rattle.dds_machine.specs.Numbered.{numbered, with_numbered, HasNumber}
 use Rattle.dds_machine.specs.Part.{Part, Writer, WriterProxy, heartbeats_used, place_of, NoLess}
 use Rattle.dds_protocol.specs.Protocol.{Known}
@@ -22,6 +23,7 @@ use Rattle.dds_protocol.specs.Filters.{peer_with_filter, world_with_filter}
 use Rattle.dds_machine.specs.Machine.{Machine, part_at, writer_at, place_at}
 use Rattle.dds_protocol.specs.Noticing.{peer_with_place, world_with_place}
 use Rattle.dds_protocol.specs.World.{WorldState, Holds, Sound, machine_of, peer_at}
+use Rattle.dds_protocol.proofs.DuesGrowth.{is_part_kept}
 use Rattle.dds_protocol.proofs.Alike.{AlikeParts, AlikeWriters, alike_by, alike_readers, parts_same}
 use Rattle.dds_protocol.proofs.Composed.{parts_at}
 use Rattle.dds_protocol.proofs.Growth.{MachineGrows, Holds-grows}
@@ -70,8 +72,8 @@ machine_grows old new s = record {
       (no_less_same (place_at (machine_of old) r w));
 }
 
-pub sound_beside : (config : Config) (old new : WorldState) → SameBeside old new → Sound config old → Sound config new
-sound_beside config old new s sound =
+pub sound_beside : (roster : Roster) (old new : WorldState) → SameBeside old new → Sound roster old → Sound roster new
+sound_beside roster old new s sound =
     let still : (c : Claim) → Holds (machine_of old) c → Holds (machine_of new) c =
     Holds-grows (machine_of old) (machine_of new) (machine_grows old new s) in
     record {
@@ -87,9 +89,9 @@ sound_beside config old new s sound =
           subst (λ (o : Option ℕ). Covered after r o) (sym (place_is old new s r w))
           (covered_same before after r (place_at (machine_of old) r w) (alike_readers before after alike)
           (alike.grows.owed r) (no_less_same (place_at (machine_of old) r w)) (sound.acknowledged w r));
-      policies = λ j k p r lt here there.
-          ap (λ (q : ReaderQos). q.reliability) ((parts_alike old new s j).qos k)
-          ∙ sound.policies j k p r (has old new s j lt) here there;
+      policies = λ r entity lt there.
+          ap (λ (q : ReaderQos). is_reliable q.reliability) ((parts_alike old new s r.peer).qos r.number)
+          ∙ sound.policies r entity (has old new s r.peer lt) there;
     }
 
 pub bounded_beside : (old new : WorldState) → SameBeside old new → IsBounded (machine_of old)
@@ -99,16 +101,16 @@ bounded_beside old new s bounded r w p h =
     let same = ap (λ (cs : List Change). length cs) (writer_alike old new s w).changes in
     omega (arith, before, same)
 
-part_beside : (config : Config) (peer : ℕ) (old new : Part) → AlikeParts old new → IsPartOf config peer old
-    → IsPartOf config peer new
-part_beside config peer old new same h = record { here = h.here; at = h.at; writers = same.count ∙ h.writers }
+part_beside : (roster : Roster) (peer : ℕ) (old new : Part) → AlikeParts old new → IsPartOf roster peer old
+    → IsPartOf roster peer new
+part_beside roster peer old new same h = is_part_kept roster peer old new same.count h
 
 beats_alike : (old new : Writer) → AlikeWriters old new → heartbeats_used new ≡ heartbeats_used old
 beats_alike old new h = ap (λ (bs : List Bool). length bs) h.counts
 
-pub used_beside : (config : Config) (old new : WorldState) → SameBeside old new → HasUsedCounts config old
-    → HasUsedCounts config new
-used_beside config old new s used =
+pub used_beside : (roster : Roster) (old new : WorldState) → SameBeside old new → HasUsedCounts roster old
+    → HasUsedCounts roster new
+used_beside roster old new s used =
     let beats : (w : Endpoint) → heartbeats_used (writer_at (machine_of new) w)
     ≡ heartbeats_used (writer_at (machine_of old) w) = λ w. beats_alike (writer_at (machine_of old) w)
     (writer_at (machine_of new) w) (writer_alike old new s w) in
@@ -116,9 +118,9 @@ used_beside config old new s used =
     ≡ ((peer_at old r.peer).known.tracked w r.number).acknacks =
     λ w r. ap (λ (k : Known). (k.tracked w r.number).acknacks) (s.known r.peer) in
     record {
-      of_config =
-          λ p h. part_beside config p (peer_at old p).part (peer_at new p).part (s.parts p)
-          (used.of_config p (has old new s p h));
+      of_roster =
+          λ p h. part_beside roster p (peer_at old p).part (peer_at new p).part (s.parts p)
+          (used.of_roster p (has old new s p h));
       heartbeat_sent = λ p w count c h.
           subst (λ (n : ℕ). count ≤ℤ pos n) (sym (beats w))
           (used.heartbeat_sent p w count (subst (λ (ps : List Packet). Contains ps p) s.sent c) h);

@@ -2,7 +2,7 @@
 use Rattle.std.proofs.Common.{◌≡◌, ℕ, List, [], Option, None, Some, ℤ, length, refl, subst, ap, sym, ◌∙◌, inl, ⊎_elim, arith}
 use Rattle.std.proofs.lemmas.Option.{same_Some}
 use Rattle.dds_base.specs.declared.change.Change.{Change}
-use Rattle.dds_base.specs.declared.config.Config.{Config}
+use Rattle.dds_protocol.specs.Roster.{Roster}
 use Rattle.dds_base.specs.Kept.{change_at}
 use Rattle.dds_base.specs.declared.endpoint.Endpoint.{Endpoint}
 use Rattle.dds_machine.specs.declared.call.Call.{Call}
@@ -49,11 +49,11 @@ rows_stay tests old c reply new h =
 
 -- ---- what a peer knows
 
-pub call_backed : (config : Config) (peer : ℕ) (packets : List (List ℕ)) (deliveries : List Delivery) (old : State)
+pub call_backed : (roster : Roster) (peer : ℕ) (packets : List (List ℕ)) (deliveries : List Delivery) (old : State)
     (tests : Tests) (c : Call) (reply : Reply) (after : Part) → CallStep tests old.part c reply after
-    → IsBacked config peer packets deliveries old
-    → IsBacked config peer packets deliveries (record old { part = after })
-call_backed config peer packets deliveries old tests c reply after h b =
+    → IsBacked roster peer packets deliveries old
+    → IsBacked roster peer packets deliveries (record old { part = after })
+call_backed roster peer packets deliveries old tests c reply after h b =
     let rows : RowsStay old.part after = rows_stay tests old.part c reply after h in
     record {
       place = λ w r p e.
@@ -75,10 +75,10 @@ call_backed config peer packets deliveries old tests c reply after h b =
 
 -- ---- what is due
 
-pub call_stays_due : (config : Config) (peer : ℕ) (tests : Tests) (old : Part) (c : Call) (reply : Reply) (new : Part)
-    (t : Telling) → effect_of old c reply ≡ tells t → CallStep tests old c reply new → StaysDue config peer old new
-call_stays_due config peer tests old c reply new t is h = record {
-  part = call_part config peer tests old c reply new h;
+pub call_stays_due : (roster : Roster) (peer : ℕ) (tests : Tests) (old : Part) (c : Call) (reply : Reply) (new : Part)
+    (t : Telling) → effect_of old c reply ≡ tells t → CallStep tests old c reply new → StaysDue roster peer old new
+call_stays_due roster peer tests old c reply new t is h = record {
+  part = call_part roster peer tests old c reply new h;
   tellable = λ all w n x at. all w n x (ap (λ (xs : List Change). change_at xs n) (sym (changes w)) ∙ at);
   small = λ all w.
       subst (λ (most : ℕ). AreSmall most (writer_changes (own_writer new w)))

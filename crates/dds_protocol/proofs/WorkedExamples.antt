@@ -4,8 +4,6 @@ use Rattle.std.proofs.Common.{◌≡◌, ℕ, Bool, true, false, List, [], ◌�
 use Rattle.std.specs.Prelude.{ℤ, pos, Some, None}
 use Rattle.dds_base.specs.declared.change.Change.{Change}
 use Rattle.dds_base.specs.declared.change.ChangeKind.TheVariants as kind
-use Rattle.dds_base.specs.declared.config.WriterConfig.{WriterConfig}
-use Rattle.dds_base.specs.declared.config.ReaderConfig.{ReaderConfig}
 use Rattle.dds_base.specs.declared.guid.GuidPrefix.{GuidPrefix}
 use Rattle.dds_base.specs.declared.guid.EntityId.{EntityId}
 use Rattle.dds_base.specs.declared.key.Key.{Key}
@@ -18,7 +16,7 @@ use Rattle.rtps_wire.specs.declared.heartbeat.Heartbeat.{Heartbeat as HeartbeatB
 use Rattle.rtps_wire.specs.declared.submessage.Submessage.TheVariants.{Data, Heartbeat, AckNack, Gap}
 use Rattle.dds_protocol.specs.Claims.{ChangeIs, MayPass, PlaceReached, Asserts, Receiver, every_reader, IsInGap, Says}
 use Rattle.rtps_wire.specs.Content.{change_in}
-use Rattle.dds_protocol.proofs.WorkedReceivers.{prefix_1, prefix_2, w1_id, r1_id, r2_id, reader, network, w1, r1, r2, r3, to_2, to_1, to_r1, to_reliable_r1, to_r3, some_is, writer-is, reader-is, not_to_r2, not_to_r3, from_r1, from_r3}
+use Rattle.dds_protocol.proofs.WorkedReceivers.{prefix_1, prefix_2, w1_id, r1_id, network, w1, r1, r2, r3, to_2, to_1, to_r1, to_reliable_r1, to_r3, not_to_r2, not_to_r3, from_r1, from_r3}
 
 -- ---- DATA
 
@@ -218,13 +216,7 @@ acknack-for_r3 = (from_r3, refl)
 -- but not for one of another topic, nor with the readerId of r1 for r3
 acknack-not_for_r2 : (own : GuidPrefix) (at : Receiver) (base : ℕ)
     → Says network own at (AckNack (acknack_2 every_reader)) (PlaceReached w1 r2 base) → ⊥
-acknack-not_for_r2 own at base h =
-    let reader_topic : 1 ≡ h.0.from.end.topic =
-    ap (λ (r : ReaderConfig). r.topic)
-    (some_is (reader r2_id 1) h.0.from.end (reader-is at.source_guid_prefix h.0.entity 2 h.0.from)) in
-    let writer_topic : h.0.to.end.topic ≡ 0 = ap (λ (w : WriterConfig). w.topic) (writer-is own w1_id h.0.to) in
-    let matched = h.0.matched in
-    absurd (omega arith)
+acknack-not_for_r2 own at base h = let no : false ≡ true = h.0.matched in absurd cc
 
 -- it says nothing of what may be passed
 acknack-passes_none : (own : GuidPrefix) (at : Receiver) (number : ℕ)

@@ -1,11 +1,7 @@
 -- What the submessages of one packet do, computed for a packet of two changes from a writer w1 at peer 1 to a reader r1
 -- at peer 2: which moves there must be, and where a submessage that finds no memory may stand.
-use Rattle.std.proofs.Common.{◌≡◌, ◌≢◌, ◌⊎◌, ℕ, zero, suc, ◌+◌, ◌-◌, ◌≤◌, ◌<◌, false, Option, Some, None, List, [], ◌∷◌, ◌++◌, refl, sym, ◌∙◌, ap, subst, inl, inr, ⊎_elim, arith, slice_get, length}
-use Rattle.std.specs.Prelude.{slice_index}
+use Rattle.std.proofs.Common.{◌≡◌, ◌≢◌, ℕ, ◌+◌, ◌≤◌, ◌<◌, false, Option, Some, None, List, [], ◌∷◌, ◌++◌, refl, sym, ap, subst, inl, inr, ⊎_elim, arith, length}
 use Rattle.dds_base.specs.declared.change.Change.{Change}
-use Rattle.dds_base.specs.declared.config.Config.{Config}
-use Rattle.dds_base.specs.declared.config.PeerConfig.{PeerConfig}
-use Rattle.dds_base.specs.declared.guid.EntityId.{EntityId}
 use Rattle.dds_base.specs.declared.guid.GuidPrefix.{GuidPrefix}
 use Rattle.dds_base.specs.declared.happening.Happening.{Happening}
 use Rattle.dds_base.specs.declared.happening.Happening.TheVariants.{Took}
@@ -24,12 +20,15 @@ use Rattle.dds_machine.specs.declared.reply.Move.TheVariants.{Place, Acknowledge
 use Rattle.dds_machine.specs.Part.{opened_with, Part, Writer, own_reader, nothing_seen}
 use Rattle.dds_base.specs.Places.{coming}
 use Rattle.dds_machine.specs.Moves.{Grounds, match_of, position_at, AreMoves}
-use Rattle.dds_protocol.specs.Claims.{Receiver, receiver_of, after_submessage, IsNumbered, IsWriter, IsReader, IsToReader}
+use Rattle.dds_protocol.specs.Claims.{Receiver, receiver_of, after_submessage, IsWriter, IsReader, IsToReader}
 use Rattle.dds_machine.specs.Machine.{grounds_of}
+use Rattle.dds_protocol.specs.Roster.{IsRoster, Roster, roster_of}
 use Rattle.dds_protocol.specs.Receipt.{GoesOver, HasNoRoom, MovesOver, TakesUp}
-use Rattle.dds_protocol.proofs.WorkedReceivers.{prefix_1, prefix_2, w1_id, r1_id, writer, reader, w1, r1, to_2, w1_named, reader_named, some_is}
+use Rattle.dds_protocol.proofs.OneName.{one_named, one_writer}
+use Rattle.dds_protocol.proofs.Rosters.{good_are_rosters}
+use Rattle.dds_protocol.proofs.WorkedReceivers.{prefix_1, prefix_2, w1_id, r1_id, w1, r1, to_2, w1_named, reader_named, some_is}
 use Rattle.dds_protocol.proofs.WorkedExamples.{key}
-use Rattle.dds_protocol.proofs.WorkedMoves.{peer_1, peer_2, pair, writing, part_2, machine, write_of, came, came_1, comes_next}
+use Rattle.dds_protocol.proofs.WorkedMoves.{peer_2, pair, writing, part_2, machine, write_of, came, came_1, comes_next}
 
 -- ---- what goes over a place
 
@@ -48,6 +47,10 @@ goes_over-not_of_2 : GoesOver w1 2 1 (Place w1 1 2 [] ∷ []) → ⊥
 goes_over-not_of_2 h = ⊎_elim (λ here. let same = here.1 in absurd (omega arith)) (λ later. later) h
 
 -- ---- a packet of two changes
+
+-- the roster of the two peers
+abbrev roster : Roster
+roster = roster_of (pair KeepAll)
 
 -- w1 has written 1 and 2, and r1 is at 1
 abbrev both : Writer
@@ -81,7 +84,7 @@ packet = InfoDst prefix_2 ∷ InfoTs (Some 0) ∷ from_data_1
 -- the submessages from this index on are taken up with these moves, and this one found no memory
 abbrev TakenFrom : ℕ → Receiver → List Submessage → Part → List Move → Option ℕ → Part → Type 0
 TakenFrom index at rest old moves refused new =
-    TakesUp (pair KeepAll) (λ index. grounds) 2 prefix_2 index at rest old moves refused new
+    TakesUp roster (λ index. grounds) 2 prefix_2 index at rest old moves refused new
 
 -- so is the whole packet
 abbrev TakenUp : List Move → Option ℕ → Part → Type 0
@@ -89,64 +92,36 @@ TakenUp moves refused new = TakenFrom 0 (receiver_of prefix_1) packet begun move
 
 -- the submessage moves each place that it must
 abbrev MovesItsPlaces : Receiver → Submessage → Part → List Move → Type 0
-MovesItsPlaces at submessage old moves = MovesOver (pair KeepAll) grounds 2 prefix_2 at submessage old moves
+MovesItsPlaces at submessage old moves = MovesOver roster grounds 2 prefix_2 at submessage old moves
 
 -- whom a DATA of the packet can be for
 
-one_of : {X : Type 0} (a : X) (n : ℕ) (x : X) → IsNumbered (a ∷ []) n x → (n ≡ 1) × (a ≡ x)
-one_of a zero x h = absurd (omega (arith, h.0))
-one_of a (suc zero) x h = (refl, some_is a x h.1)
-one_of a (suc (suc n)) x h =
-    let below : suc (suc n) - 1 ≡ suc n = omega arith in
-    let none = subst (λ (i : ℕ). slice_get (a ∷ []) i ≡ Some x) below h.1 in
-    absurd cc
+is_roster : IsRoster roster
+is_roster = good_are_rosters (pair KeepAll) (record { prefixes = refl; each = refl })
 
-two_of : {X : Type 0} (a b : X) (n : ℕ) (x : X) → IsNumbered (a ∷ b ∷ []) n x
-    → ((n ≡ 1) × (a ≡ x)) ⊎ ((n ≡ 2) × (b ≡ x))
-two_of a b zero x h = absurd (omega (arith, h.0))
-two_of a b (suc zero) x h = inl (refl, some_is a x h.1)
-two_of a b (suc (suc zero)) x h = inr (refl, some_is b x h.1)
-two_of a b (suc (suc (suc n))) x h =
-    let below : suc (suc (suc n)) - 1 ≡ suc (suc n) = omega arith in
-    let none = subst (λ (i : ℕ). slice_get (a ∷ b ∷ []) i ≡ Some x) below h.1 in
-    absurd cc
+w1_there : IsWriter roster prefix_1 w1_id w1
+w1_there = w1_named {readers = peer_2.readers}
 
-named : ℕ → ℕ → Endpoint
-named peer number = record { peer = peer; number = number }
+r1_there : IsReader roster prefix_2 r1_id r1
+r1_there = reader_named {readers = peer_2.readers} r1_id 1 0 (omega arith, refl)
 
-writer-is : (entity : EntityId) (w : Endpoint) → IsWriter (pair KeepAll) prefix_1 entity w → w1 ≡ w
-unfolding named
-writer-is entity w h =
-    ⊎_elim
-    (λ one.
-    let at = subst (λ (p : PeerConfig). IsNumbered p.writers w.number h.end) (sym one.1) h.at_writer in
-    let number = one_of (writer KeepAll) w.number h.end at in
-    ap (λ (n : ℕ). named n 1) (sym one.0) ∙ ap (λ (n : ℕ). named w.peer n) (sym number.0))
-    (λ two.
-    let last = ap (λ (p : GuidPrefix). slice_index p.0 11) (ap (λ (p : PeerConfig). p.prefix) two.1 ∙ h.same_prefix) in
-    absurd (omega arith))
-    (two_of (peer_1 KeepAll) peer_2 w.peer h.peer h.at_peer)
-
-reader-is_1 : (prefix : GuidPrefix) (entity : EntityId) (r : Endpoint) → r.peer ≡ 2
-    → IsReader (pair KeepAll) prefix entity r → 1 ≡ r.number
-reader-is_1 prefix entity r two h =
-    let peer : Some peer_2 ≡ Some h.peer =
-    subst (λ (n : ℕ). slice_get (pair KeepAll).peers (n - 1) ≡ Some h.peer) two h.at_peer.1 in
-    let at =
-    subst (λ (p : PeerConfig). IsNumbered p.readers r.number h.end) (sym (some_is peer_2 h.peer peer)) h.at_reader
-    in
-    let number = one_of (reader r1_id 0) r.number h.end at in
-    sym number.0
-
-to_r1 : IsToReader (pair KeepAll) prefix_2 to_2 r1_id w1_id w1 r1
+to_r1 : IsToReader roster prefix_2 to_2 r1_id w1_id w1 r1
 to_r1 = record {
-  from = w1_named;
+  from = w1_there;
   is_for = refl;
   entity = r1_id;
-  to = reader_named r1_id 1 0 (omega arith, refl);
+  to = r1_there;
   named = inl refl;
   matched = refl;
 }
+
+from_w1 : (w : Endpoint) → IsWriter roster prefix_1 w1_id w → w1 ≡ w
+from_w1 w h = one_writer roster prefix_1 w1_id w1 w is_roster w1_there h
+
+to_r1_alone : (w r : Endpoint) → IsToReader roster prefix_2 to_2 r1_id w1_id w r → 1 ≡ r.number
+to_r1_alone w r h =
+    sym (ap (λ (e : Endpoint). e.number)
+    (one_named roster prefix_2 r1_id w1_id prefix_2 to_2 w r r1 is_roster refl r1_there h))
 
 -- a submessage without a change need move no place, and a DATA moves that of the one reader that it is for
 info-moves_nothing : (at : Receiver) (part : Part) (stamp : Option ℕ) → MovesItsPlaces at (InfoTs stamp) part []
@@ -156,7 +131,7 @@ data-moves_its_place : (part : Part) (number : ℕ)
     → MovesItsPlaces to_2 (Data (data_of number)) part (Place w1 1 (number + 1) [] ∷ [])
 data-moves_its_place part number = λ w r publication n change says same matched low high.
     let its_number = says.1 in
-    inl (inl (writer-is w1_id w says.0.from, reader-is_1 prefix_2 says.0.entity r same says.0.to, omega arith))
+    inl (inl (from_w1 w says.0.from, to_r1_alone w r says.0, omega arith))
 
 -- each DATA moves the place by one
 moves-1 : AreMoves grounds begun (Place w1 1 2 [] ∷ []) (part_2 2 None came_1)
@@ -220,21 +195,21 @@ taken_up-refused_4 =
 -- ---- what excuses nothing
 
 -- a refusal stands at a submessage of the packet
-refused-within : (config : Config) (ground : ℕ → Grounds) (peer : ℕ) (own : GuidPrefix) (ss : List Submessage)
+refused-within : (roster : Roster) (ground : ℕ → Grounds) (peer : ℕ) (own : GuidPrefix) (ss : List Submessage)
     (index : ℕ) (at : Receiver) (old : Part) (moves : List Move) (refused : ℕ) (new : Part)
-    → TakesUp config ground peer own index at ss old moves (Some refused) new
+    → TakesUp roster ground peer own index at ss old moves (Some refused) new
     → (index ≤ refused) × (refused < index + length ss)
-refused-within config ground peer own [] index at old moves refused new h = let none = h.1 in absurd cc
-refused-within config ground peer own (s ∷ ss) index at old moves refused new h =
+refused-within roster ground peer own [] index at old moves refused new h = let none = h.1 in absurd cc
+refused-within roster ground peer own (s ∷ ss) index at old moves refused new h =
     ⊎_elim (λ stop. let here = some_is refused index stop.1 in (omega arith, omega arith))
-    (λ on. let later = refused-within config ground peer own ss (index + 1)
+    (λ on. let later = refused-within roster ground peer own ss (index + 1)
     (after_submessage own at s) on.2 on.1 refused new on.6 in (omega arith, omega arith)) h
 
 refused-in : (index refused : ℕ) (at : Receiver) (ss : List Submessage) (old new : Part) (moves : List Move)
     → TakenFrom index at ss old moves (Some refused) new
     → (index ≤ refused) × (refused < index + length ss)
 refused-in index refused at ss old new moves h =
-    refused-within (pair KeepAll) (λ index. grounds) 2 prefix_2 ss index at old moves refused new h
+    refused-within roster (λ index. grounds) 2 prefix_2 ss index at old moves refused new h
 
 taken_up-not_refused_5 : (moves : List Move) (new : Part) → TakenUp moves (Some 5) new → ⊥
 taken_up-not_refused_5 moves new h =

@@ -1,6 +1,6 @@
 -- Whom the parts of a message are for, when what follows was made, and whom a submessage speaks to, computed at a
 -- network of two peers: peer 1 has a writer w1, peer 2 readers r1, r2 and r3, of which r2 is of another topic.
-use Rattle.std.proofs.Common.{◌≡◌, ℕ, ◌-◌, ◌^◌, true, false, Some, None, [], ◌∷◌, ◌++◌, replicate, refl, sym, ◌∙◌, ap, subst, inr, ⊎_elim, arith, slice_get, List}
+use Rattle.std.proofs.Common.{◌≡◌, ℕ, ◌-◌, ◌^◌, true, false, Some, None, [], ◌∷◌, ◌++◌, replicate, refl, sym, ◌∙◌, ap, inr, ⊎_elim, arith, List}
 use Rattle.std.specs.Prelude.{pos, negsuc, slice_index}
 use Rattle.dds_base.specs.declared.config.Config.{Config}
 use Rattle.dds_base.specs.declared.config.PeerConfig.{PeerConfig}
@@ -16,6 +16,8 @@ use Rattle.dds_base.specs.Bounds.{usual_arrivals, usual_value}
 use Rattle.rtps_wire.specs.declared.data.Data.{Data as DataBody}
 use Rattle.rtps_wire.specs.declared.submessage.Submessage.TheVariants.{Pad, InfoDst, InfoTs, Data}
 use Rattle.dds_base.specs.declared.endpoint.Endpoint.{Endpoint}
+use Rattle.dds_protocol.proofs.Listed.{reader_named as named_there}
+use Rattle.dds_protocol.specs.Roster.{Roster, roster_of}
 use Rattle.dds_protocol.specs.Claims.{IsNumbered, IsWriter, IsReader, Receiver, every_peer, receiver_of, is_for, after_submessage, StandsAt, every_reader, Names, IsToReader, IsToReliable, IsToWriter}
 
 abbrev pub prefix_1 : GuidPrefix
@@ -69,17 +71,20 @@ reader entity topic =
 abbrev pub peer_1 : PeerConfig
 peer_1 = record { prefix = prefix_1; writers = writer KeepAll ∷ []; readers = [] }
 
--- peer 2 with these readers, and the network in which it has them
+-- peer 2 with these readers, the two peers then, and their roster
 abbrev peer_with : List ReaderConfig → PeerConfig
 peer_with readers = record { prefix = prefix_2; writers = []; readers = readers }
 
-abbrev pub network_with : List ReaderConfig → Config
-network_with readers = record { peers = peer_1 ∷ peer_with readers ∷ [] }
+abbrev pub peers_with : List ReaderConfig → Config
+peers_with readers = record { peers = peer_1 ∷ peer_with readers ∷ [] }
+
+abbrev pub network_with : List ReaderConfig → Roster
+network_with readers = roster_of (peers_with readers)
 
 abbrev pub peer_2 : PeerConfig
 peer_2 = peer_with (reader r1_id 0 ∷ reader r2_id 1 ∷ reader r3_id 0 ∷ [])
 
-abbrev pub network : Config
+abbrev pub network : Roster
 network = network_with peer_2.readers
 
 abbrev pub w1 : Endpoint
@@ -170,29 +175,15 @@ stands-not_past_the_end d at h = h
 -- ---- whom a submessage speaks to, and for whom
 
 abbrev pub w1_named : {readers : List ReaderConfig} → IsWriter (network_with readers) prefix_1 w1_id w1
-w1_named =
-    record {
-      peer = peer_1;
-      at_peer = (omega arith, refl);
-      same_prefix = refl;
-      end = writer KeepAll;
-      at_writer = (omega arith, refl);
-      same_entity = refl;
-    }
+w1_named = record { same_prefix = refl; at_writer = refl }
 
 -- a reader of peer 2, by its number there
 abbrev pub reader_named : {readers : List ReaderConfig} (entity : EntityId) (number topic : ℕ)
     → IsNumbered readers number (reader entity topic)
     → IsReader (network_with readers) prefix_2 entity (record { peer = 2; number = number })
 reader_named {readers} entity number topic at =
-    record {
-      peer = peer_with readers;
-      at_peer = (omega arith, refl);
-      same_prefix = refl;
-      end = reader entity topic;
-      at_reader = at;
-      same_entity = refl;
-    }
+    named_there (peers_with readers) (record { peer = 2; number = number }) (peer_with readers) (reader entity topic)
+    (omega arith, refl) at
 
 abbrev r1_named : IsReader network prefix_2 r1_id r1
 r1_named = reader_named r1_id 1 0 (omega arith, refl)
@@ -228,41 +219,17 @@ to_r3 = record { from = w1_named; is_for = refl; entity = r3_id; to = r3_named; 
 pub some_is : {X : Type 0} (a b : X) → Some a ≡ Some b → a ≡ b
 some_is a b h = cc
 
-pub writer-is : (prefix : GuidPrefix) (entity : EntityId) (w : IsWriter network prefix entity w1)
-    → w.end ≡ writer KeepAll
-writer-is prefix entity w =
-    let peer : peer_1 ≡ w.peer = some_is peer_1 w.peer w.at_peer.1 in
-    let end : Some (writer KeepAll) ≡ Some w.end =
-    subst (λ (p : PeerConfig). slice_get p.writers 0 ≡ Some w.end) (sym peer) w.at_writer.1 in
-    sym (some_is (writer KeepAll) w.end end)
-
-pub reader-is : (prefix : GuidPrefix) (entity : EntityId) (number : ℕ)
-    (r : IsReader network prefix entity (record { peer = 2; number = number }))
-    → slice_get peer_2.readers (number - 1) ≡ Some r.end
-reader-is prefix entity number r =
-    subst (λ (p : PeerConfig). slice_get p.readers (number - 1) ≡ Some r.end)
-    (sym (some_is peer_2 r.peer r.at_peer.1)) r.at_reader.1
-
 -- no submessage speaks to a reader of another topic, whatever its readerId and its part
 pub not_to_r2 : (own : GuidPrefix) (at : Receiver) (reader_id writer_id : EntityId)
     → IsToReader network own at reader_id writer_id w1 r2 → ⊥
-not_to_r2 own at reader_id writer_id h =
-    let writer_topic : h.from.end.topic ≡ 0 =
-    ap (λ (w : WriterConfig). w.topic) (writer-is at.source_guid_prefix writer_id h.from) in
-    let reader_topic : 1 ≡ h.to.end.topic =
-    ap (λ (r : ReaderConfig). r.topic) (some_is (reader r2_id 1) h.to.end (reader-is own h.entity 2 h.to)) in
-    let matched = h.matched in
-    absurd (omega arith)
+not_to_r2 own at reader_id writer_id h = let no : false ≡ true = h.matched in absurd cc
 
 -- the readerId of r1 does not name r3
 pub not_to_r3 : (own : GuidPrefix) (at : Receiver) (writer_id : EntityId)
     → IsToReader network own at r1_id writer_id w1 r3 → ⊥
 not_to_r3 own at writer_id h =
-    let entity : r3_id ≡ h.to.end.entity =
-    ap (λ (r : ReaderConfig). r.entity) (some_is (reader r3_id 0) h.to.end (reader-is own h.entity 3 h.to)) in
-    let same = h.to.same_entity in
-    ⊎_elim (λ e. let third = ap (λ (id : EntityId). slice_index id.0 2)
-    (e ∙ (sym same ∙ sym entity)) in absurd (omega arith))
+    let entity : r3_id ≡ h.entity = some_is r3_id h.entity h.to.at_reader in
+    ⊎_elim (λ e. let third = ap (λ (id : EntityId). slice_index id.0 2) (e ∙ sym entity) in absurd (omega arith))
     (λ e. let third = ap (λ (id : EntityId). slice_index id.0 2) e in absurd (omega arith)) h.named
 
 -- nor does a part for another peer speak to r1

@@ -258,7 +258,7 @@ assertion-by_name : assertions_due network (knows_nothing.answered 1) w1 later_o
     ≡ to_peer_2 (beat_from true r1_id 2 3 ∷ beat_from true r2_id 2 3 ∷ beat_from true r3_id 3 3 ∷ []) ∷ []
 assertion-by_name = refl
 
--- one to a reader that the configuration does not have names none
+-- one to a reader that the roster does not have names none
 tick-nobody : reader_entity network 2 4 ≡ participant_entity
 tick-nobody = refl
 

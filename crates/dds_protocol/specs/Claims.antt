@@ -3,15 +3,11 @@
 -- RTPS 2.5, 8.3.4 (the receiver of a message), 8.3.8 (what each submessage means).
 use Rattle.std.specs.Prelude.{◌≡◌, ◌⊎◌, ℕ, zero, suc, ◌-◌, ◌<◌, ◌≤◌, Bool, true, ◌||◌, Option, Some, None, ℤ, List, [], ◌∷◌, replicate, slice_get, nat_lt, if◌then◌else◌, Contains}
 use Rattle.dds_base.specs.declared.change.Change.{Change}
-use Rattle.dds_base.specs.declared.config.Config.{Config}
-use Rattle.dds_base.specs.declared.config.PeerConfig.{PeerConfig}
-use Rattle.dds_base.specs.declared.config.WriterConfig.{WriterConfig}
-use Rattle.dds_base.specs.declared.config.ReaderConfig.{ReaderConfig}
+use Rattle.dds_protocol.specs.Roster.{Roster}
 use Rattle.dds_base.specs.declared.guid.GuidPrefix.{GuidPrefix}
 use Rattle.dds_base.specs.declared.guid.EntityId.{EntityId}
 use Rattle.dds_base.specs.Bounds.{end_of_moments}
 use Rattle.dds_base.specs.Checked.{unknown_prefix, same_prefix}
-use Rattle.dds_base.specs.Matched.{is_reliable_reader}
 use Rattle.rtps_sets.specs.NumberSet.{has_number}
 use Rattle.rtps_wire.specs.declared.gap.Gap.{Gap as GapBody}
 use Rattle.rtps_wire.specs.declared.message.Message.{Message}
@@ -36,23 +32,15 @@ pub data Claim : Type 0 where
 abbrev pub IsNumbered : {X : Type 0} → List X → ℕ → X → Type 0
 IsNumbered xs n x = (1 ≤ n) × (slice_get xs (n - 1) ≡ Some x)
 
--- the configuration has the writer, with this name
-pub record IsWriter (config : Config) (prefix : GuidPrefix) (entity : EntityId) (writer : Endpoint) : Type 0 where
-  pub peer : PeerConfig
-  pub at_peer : IsNumbered config.peers writer.peer peer
-  pub same_prefix : peer.prefix ≡ prefix
-  pub end : WriterConfig
-  pub at_writer : IsNumbered peer.writers writer.number end
-  pub same_entity : end.entity ≡ entity
+-- the roster has the writer, by this GUID
+pub record IsWriter (roster : Roster) (prefix : GuidPrefix) (entity : EntityId) (writer : Endpoint) : Type 0 where
+  pub same_prefix : roster.prefix writer.peer ≡ prefix
+  pub at_writer : roster.writers writer ≡ Some entity
 
--- the configuration has the reader, with this name
-pub record IsReader (config : Config) (prefix : GuidPrefix) (entity : EntityId) (reader : Endpoint) : Type 0 where
-  pub peer : PeerConfig
-  pub at_peer : IsNumbered config.peers reader.peer peer
-  pub same_prefix : peer.prefix ≡ prefix
-  pub end : ReaderConfig
-  pub at_reader : IsNumbered peer.readers reader.number end
-  pub same_entity : end.entity ≡ entity
+-- the roster has the reader, by this GUID
+pub record IsReader (roster : Roster) (prefix : GuidPrefix) (entity : EntityId) (reader : Endpoint) : Type 0 where
+  pub same_prefix : roster.prefix reader.peer ≡ prefix
+  pub at_reader : roster.readers reader ≡ Some entity
 
 -- what a receiver knows when it comes to a submessage: whom the message is from, whom this part of it is for, and when
 -- what follows was made
@@ -106,63 +94,63 @@ abbrev pub Names : EntityId → EntityId → Type 0
 Names reader_id entity = (reader_id ≡ entity) ⊎ (reader_id ≡ every_reader)
 
 -- the submessage is from the writer, in a part that is for the peer of the reader, and its readerId names the reader,
--- which is matched with the writer: both are of one topic
-pub record IsToReader (config : Config) (own : GuidPrefix) (at : Receiver) (reader_id writer_id : EntityId)
+-- which is matched with the writer
+pub record IsToReader (roster : Roster) (own : GuidPrefix) (at : Receiver) (reader_id writer_id : EntityId)
     (writer reader : Endpoint) : Type 0 where
-  pub from : IsWriter config at.source_guid_prefix writer_id writer
+  pub from : IsWriter roster at.source_guid_prefix writer_id writer
   pub is_for : is_for at own ≡ true
   pub entity : EntityId
-  pub to : IsReader config own entity reader
+  pub to : IsReader roster own entity reader
   pub named : Names reader_id entity
-  pub matched : from.end.topic ≡ to.end.topic
+  pub matched : roster.are_matched writer reader ≡ true
 
 -- the same, and the reader is a reliable one: a best-effort reader is told nothing of what was dropped
-pub record IsToReliable (config : Config) (own : GuidPrefix) (at : Receiver) (reader_id writer_id : EntityId)
+pub record IsToReliable (roster : Roster) (own : GuidPrefix) (at : Receiver) (reader_id writer_id : EntityId)
     (writer reader : Endpoint) : Type 0 where
-  pub is_to : IsToReader config own at reader_id writer_id writer reader
-  pub reliable : is_reliable_reader is_to.to.end ≡ true
+  pub is_to : IsToReader roster own at reader_id writer_id writer reader
+  pub reliable : roster.is_reliable reader ≡ true
 
 -- the submessage is from the reader, which its readerId names, for the writer, with which it is matched
-pub record IsToWriter (config : Config) (own : GuidPrefix) (at : Receiver) (reader_id writer_id : EntityId)
+pub record IsToWriter (roster : Roster) (own : GuidPrefix) (at : Receiver) (reader_id writer_id : EntityId)
     (writer reader : Endpoint) : Type 0 where
   pub entity : EntityId
-  pub from : IsReader config at.source_guid_prefix entity reader
+  pub from : IsReader roster at.source_guid_prefix entity reader
   pub named : Names reader_id entity
   pub is_for : is_for at own ≡ true
-  pub to : IsWriter config own writer_id writer
-  pub matched : to.end.topic ≡ from.end.topic
+  pub to : IsWriter roster own writer_id writer
+  pub matched : roster.are_matched writer reader ≡ true
 
 -- the submessage concerns an endpoint of the peer of this number: it is a DATA, a GAP or a HEARTBEAT to a reader there,
 -- or an ACKNACK to a writer there
-abbrev pub Concerns : Config → GuidPrefix → ℕ → Receiver → Submessage → Type 0
-Concerns config own peer at (Data d) =
-    (writer reader : Endpoint) × IsToReader config own at d.reader_id d.writer_id writer reader × (reader.peer ≡ peer)
-Concerns config own peer at (Gap g) =
-    (writer reader : Endpoint) × IsToReader config own at g.reader_id g.writer_id writer reader × (reader.peer ≡ peer)
-Concerns config own peer at (Heartbeat h) =
-    (writer reader : Endpoint) × IsToReader config own at h.reader_id h.writer_id writer reader × (reader.peer ≡ peer)
-Concerns config own peer at (AckNack a) =
-    (writer reader : Endpoint) × IsToWriter config own at a.reader_id a.writer_id writer reader × (writer.peer ≡ peer)
-Concerns config own peer at submessage = ⊥
+abbrev pub Concerns : Roster → GuidPrefix → ℕ → Receiver → Submessage → Type 0
+Concerns roster own peer at (Data d) =
+    (writer reader : Endpoint) × IsToReader roster own at d.reader_id d.writer_id writer reader × (reader.peer ≡ peer)
+Concerns roster own peer at (Gap g) =
+    (writer reader : Endpoint) × IsToReader roster own at g.reader_id g.writer_id writer reader × (reader.peer ≡ peer)
+Concerns roster own peer at (Heartbeat h) =
+    (writer reader : Endpoint) × IsToReader roster own at h.reader_id h.writer_id writer reader × (reader.peer ≡ peer)
+Concerns roster own peer at (AckNack a) =
+    (writer reader : Endpoint) × IsToWriter roster own at a.reader_id a.writer_id writer reader × (writer.peer ≡ peer)
+Concerns roster own peer at submessage = ⊥
 
 -- the number is one that a GAP names: from gapStart to below the set's base, or in the set
 abbrev pub IsInGap : GapBody → ℕ → Type 0
 IsInGap g number = ((g.gap_start ≤ number) × (number < g.gap_list.base)) ⊎ (has_number g.gap_list number ≡ true)
 
 -- what a submessage claims to the peer of this prefix, where the receiver is so
-abbrev pub Says : Config → GuidPrefix → Receiver → Submessage → Claim → Type 0
-Says config own at (Data d) (ChangeIs writer reader number change) =
-    IsToReader config own at d.reader_id d.writer_id writer reader × (number ≡ d.writer_sn)
+abbrev pub Says : Roster → GuidPrefix → Receiver → Submessage → Claim → Type 0
+Says roster own at (Data d) (ChangeIs writer reader number change) =
+    IsToReader roster own at d.reader_id d.writer_id writer reader × (number ≡ d.writer_sn)
     × (change ≡ change_in d.content at.timestamp)
-Says config own at (Gap g) (MayPass writer reader number) =
-    IsToReliable config own at g.reader_id g.writer_id writer reader × (1 ≤ number) × IsInGap g number
-Says config own at (Heartbeat h) (MayPass writer reader number) =
-    IsToReliable config own at h.reader_id h.writer_id writer reader × (1 ≤ number) × (number < h.first_sn)
-Says config own at (Heartbeat h) (Asserts writer reader count) =
-    IsToReader config own at h.reader_id h.writer_id writer reader × (h.liveliness_flag ≡ true) × (count ≡ h.count)
-Says config own at (AckNack a) (PlaceReached writer reader base) =
-    IsToWriter config own at a.reader_id a.writer_id writer reader × (base ≡ a.reader_sn_state.base)
-Says config own at submessage claim = ⊥
+Says roster own at (Gap g) (MayPass writer reader number) =
+    IsToReliable roster own at g.reader_id g.writer_id writer reader × (1 ≤ number) × IsInGap g number
+Says roster own at (Heartbeat h) (MayPass writer reader number) =
+    IsToReliable roster own at h.reader_id h.writer_id writer reader × (1 ≤ number) × (number < h.first_sn)
+Says roster own at (Heartbeat h) (Asserts writer reader count) =
+    IsToReader roster own at h.reader_id h.writer_id writer reader × (h.liveliness_flag ≡ true) × (count ≡ h.count)
+Says roster own at (AckNack a) (PlaceReached writer reader base) =
+    IsToWriter roster own at a.reader_id a.writer_id writer reader × (base ≡ a.reader_sn_state.base)
+Says roster own at submessage claim = ⊥
 
 -- the submessage stands in the message that these bytes are, and the receiver is so when it comes to it
 pub record StandsIn (bytes : List ℕ) (own : GuidPrefix) (at : Receiver) (submessage : Submessage) : Type 0 where
@@ -173,15 +161,15 @@ pub record StandsIn (bytes : List ℕ) (own : GuidPrefix) (at : Receiver) (subme
   pub stands : StandsAt own (receiver_of message.prefix) message.submessages index at submessage
 
 -- a packet's claims, by its bytes
-pub record Claims (config : Config) (bytes : List ℕ) (claim : Claim) : Type 0 where
+pub record Claims (roster : Roster) (bytes : List ℕ) (claim : Claim) : Type 0 where
   pub own : GuidPrefix
   pub at : Receiver
   pub submessage : Submessage
   pub there : StandsIn bytes own at submessage
-  pub says : Says config own at submessage claim
+  pub says : Says roster own at submessage claim
 
 -- one of these packets claims it
-pub record Claimed (config : Config) (packets : List (List ℕ)) (claim : Claim) : Type 0 where
+pub record Claimed (roster : Roster) (packets : List (List ℕ)) (claim : Claim) : Type 0 where
   pub packet : List ℕ
   pub among : Contains packets packet
-  pub claims : Claims config packet claim
+  pub claims : Claims roster packet claim

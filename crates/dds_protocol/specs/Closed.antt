@@ -5,6 +5,7 @@
 -- A notion of this project, of RTPS 2.5, 8.4.7 (ReaderProxy), 8.4.10 (WriterProxy).
 use Rattle.std.specs.Prelude.{◌≡◌, ◌↔◌, ◌⊎◌, ℕ, ◌<◌, ◌≤◌, true, false, Some, IsSome, List, [], ◌∷◌}
 use Rattle.dds_base.specs.declared.config.Config.{Config}
+use Rattle.dds_protocol.specs.Roster.{Roster}
 use Rattle.dds_base.specs.declared.qos.HistoryQos.TheVariants.{KeepAll}
 use Rattle.dds_base.specs.Kept.{is_dropped}
 use Rattle.dds_base.specs.Matched.{is_reliable}
@@ -166,7 +167,7 @@ ClosedClaims = (m : Machine) (writer reader : Endpoint) (number : ℕ) → IsClo
 
 -- and no reader has acknowledged more than it has
 abbrev pub ClosedAcknowledges : Type 0
-ClosedAcknowledges = (config : Config) (world : WorldState) (writer reader : Endpoint) → Sound config world
+ClosedAcknowledges = (roster : Roster) (world : WorldState) (writer reader : Endpoint) → Sound roster world
     → IsClosed (machine_of world)
     → NoLess (acknowledged_of (writer_at (machine_of world) writer).readers reader)
     (place_at (machine_of world) reader writer)

@@ -13,7 +13,7 @@ use Rattle.dds_protocol.specs.Fresh.{HasUsedCounts}
 use Rattle.dds_protocol.specs.Opening.{opening_world}
 use Rattle.dds_protocol.specs.Peer.{Peer}
 use Rattle.dds_protocol.specs.Protocol.{knows_nothing}
-use Rattle.dds_protocol.specs.Roster.{ComeFirst}
+use Rattle.dds_protocol.specs.Roster.{ComeFirst, roster_of}
 use Rattle.dds_protocol.specs.World.{WorldState, machine_of, Sound}
 
 -- a peer that comes with this number: it knows nothing, and nothing was delivered to it
@@ -35,21 +35,22 @@ IsNext roster world p = IsNumbered roster.peers (length world.peers + 1) p
 
 -- all claims are true at the opening of every configuration also by a roster that goes on behind its peers
 abbrev pub OpensSoundFirst : Type 0
-OpensSoundFirst = (config roster : Config) → ComeFirst config roster → Sound roster (opening_world config)
+OpensSoundFirst = (config roster : Config) → ComeFirst config roster → Sound (roster_of roster) (opening_world config)
 
 -- and no count has been used
 abbrev pub OpensUsedFirst : Type 0
-OpensUsedFirst = (config roster : Config) → ComeFirst config roster → HasUsedCounts roster (opening_world config)
+OpensUsedFirst = (config roster : Config) → ComeFirst config roster
+    → HasUsedCounts (roster_of roster) (opening_world config)
 
 -- what packets claim stays true as a peer comes
 abbrev pub ComesSound : Type 0
-ComesSound = (roster : Config) (world : WorldState) (p : PeerConfig) → Sound roster world → IsNext roster world p
-    → Sound roster (world_with_peer world p)
+ComesSound = (roster : Config) (world : WorldState) (p : PeerConfig) → Sound (roster_of roster) world
+    → IsNext roster world p → Sound (roster_of roster) (world_with_peer world p)
 
 -- the counts that were sent or taken stay used
 abbrev pub ComesUsed : Type 0
-ComesUsed = (roster : Config) (world : WorldState) (p : PeerConfig) → HasUsedCounts roster world → IsNext roster world p
-    → HasUsedCounts roster (world_with_peer world p)
+ComesUsed = (roster : Config) (world : WorldState) (p : PeerConfig) → HasUsedCounts (roster_of roster) world
+    → IsNext roster world p → HasUsedCounts (roster_of roster) (world_with_peer world p)
 
 -- places stay within the lists
 abbrev pub ComesBounded : Type 0

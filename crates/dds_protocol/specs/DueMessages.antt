@@ -2,18 +2,14 @@
 -- assertion and a HEARTBEAT also to whom.
 --
 -- RTPS 2.5, 8.4.9 (reliable StatefulWriter), 8.4.12 (reliable StatefulReader), 8.3.8 (AckNack, Data, Gap, Heartbeat).
-use Rattle.std.specs.Prelude.{◌≡◌, ◌⊎◌, ℕ, ◌+◌, ◌-◌, ◌==◌, ◌&&◌, ◌||◌, Bool, true, false, not, if◌then◌else◌, nat_lt, nat_le, max, min, List, [], ◌∷◌, ◌++◌, length, map, filter, Option, Some, None, pos, slice_get}
+use Rattle.std.specs.Prelude.{◌≡◌, ◌⊎◌, ℕ, ◌+◌, ◌-◌, ◌==◌, ◌&&◌, ◌||◌, Bool, true, false, not, if◌then◌else◌, nat_lt, nat_le, max, min, List, [], ◌∷◌, ◌++◌, length, map, filter, Option, Some, None, pos}
 use Rattle.std.specs.List.{flat_map, list_all, list_any}
 use Rattle.std.specs.Option.{option_map_or}
 use Rattle.dds_base.specs.declared.change.Change.{Change}
-use Rattle.dds_base.specs.declared.config.Config.{Config}
-use Rattle.dds_base.specs.declared.config.PeerConfig.{PeerConfig}
-use Rattle.dds_base.specs.declared.config.ReaderConfig.{ReaderConfig}
-use Rattle.dds_base.specs.declared.config.WriterConfig.{WriterConfig}
+use Rattle.dds_protocol.specs.Roster.{Roster}
 use Rattle.dds_base.specs.declared.guid.EntityId.{EntityId}
 use Rattle.dds_base.specs.declared.guid.GuidPrefix.{GuidPrefix}
 use Rattle.dds_base.specs.Bounds.{max_count}
-use Rattle.dds_base.specs.Checked.{unknown_prefix}
 use Rattle.dds_base.specs.Kept.{change_at, first_kept}
 use Rattle.rtps_wire.specs.declared.message.Message.{Message}
 use Rattle.rtps_wire.specs.declared.submessage.Submessage.{Submessage}
@@ -26,11 +22,9 @@ use Rattle.rtps_writer.specs.declared.answer.Answer.{Answer}
 use Rattle.rtps_writer.specs.declared.answer.Answer.TheVariants.{Data as AnswersData, Gap as AnswersGap}
 use Rattle.dds_base.specs.declared.endpoint.Endpoint.{Endpoint}
 use Rattle.dds_protocol.specs.declared.event.Packet.{Packet}
-use Rattle.dds_machine.specs.Numbered.{numbered}
 use Rattle.dds_machine.specs.Part.{Part, ReaderProxy, Writer, own_writer, peers_of, writer_changes, heartbeats_used, history_of, row_of}
 use Rattle.dds_protocol.specs.Claims.{every_reader, participant_entity}
 use Rattle.dds_protocol.specs.Contact.{Contact, awaits_heartbeat}
-use Rattle.dds_protocol.specs.Receipt.{prefix_of}
 
 -- a message that is due to the peer of this number
 pub record Due : Type 0 where
@@ -77,20 +71,15 @@ abbrev pub answer_message : (own to : GuidPrefix) (reader writer : EntityId) →
 answer_message own to reader writer changes answers =
     record { prefix = own; submessages = InfoDst to ∷ flat_map (submessages_of changes reader writer) answers }
 
--- the entity id of a peer's writer, by the configuration
-abbrev pub writer_entity : Config → ℕ → ℕ → EntityId
-writer_entity config peer number =
-    option_map_or (λ (p : PeerConfig). option_map_or (λ (w : WriterConfig). w.entity)
-    (slice_get p.writers (number - 1)) every_reader) (slice_get config.peers (peer - 1)) every_reader
+-- the entity id of a writer that the roster has
+abbrev pub writer_entity : Roster → ℕ → ℕ → EntityId
+writer_entity roster peer number =
+    option_map_or (λ entity. entity) (roster.writers (record { peer = peer; number = number })) every_reader
 
--- the entity ids of a peer's readers, by the configuration
-abbrev pub reader_entities : Config → ℕ → List EntityId
-reader_entities config peer = map (λ (r : ReaderConfig). r.entity)
-    (numbered config.peers peer (record { prefix = unknown_prefix; writers = []; readers = [] })).readers
-
--- the entity id of a peer's reader; where there is none, one that no reader has
-abbrev pub reader_entity : Config → ℕ → ℕ → EntityId
-reader_entity config peer number = numbered (reader_entities config peer) number participant_entity
+-- the entity id of a reader; where there is none, one that no reader has
+abbrev pub reader_entity : Roster → ℕ → ℕ → EntityId
+reader_entity roster peer number =
+    option_map_or (λ entity. entity) (roster.readers (record { peer = peer; number = number })) participant_entity
 
 -- a change is announced at once to each peer with a matched reader, for all of its readers
 abbrev pub change_message : (own to : GuidPrefix) (writer : EntityId) → ℕ → Change → Message
@@ -98,12 +87,12 @@ change_message own to writer number change =
     record { prefix = own; submessages = InfoDst to ∷ data_of every_reader writer number (Some change) }
 
 -- what is due once a writer has made the change of this number: a message to each peer with one of these readers
-abbrev pub changes_due : Config → Endpoint → List Endpoint → ℕ → Change → List Due
-changes_due config writer readers number change =
+abbrev pub changes_due : Roster → Endpoint → List Endpoint → ℕ → Change → List Due
+changes_due roster writer readers number change =
     map (λ to. record {
       to = to;
-      message = change_message (prefix_of config writer.peer) (prefix_of config to)
-          (writer_entity config writer.peer writer.number) number change;
+      message = change_message (roster.prefix writer.peer) (roster.prefix to)
+          (writer_entity roster writer.peer writer.number) number change;
     }) (peers_of readers)
 
 -- the reader of this row is sent a HEARTBEAT at a tick: it has not acknowledged all of the writer's changes, asks for
@@ -157,58 +146,58 @@ heartbeat_from final liveliness reader writer first last w =
 -- The HEARTBEATs of a writer to those of these readers that are at this peer: one for all of them, from the first kept
 -- number to the last; or, where some reader there is owed no more than what comes later, or is silent, one by name to
 -- each, from where that one begins to where it ends (RTPS 2.5, 8.3.8: a HEARTBEAT's readerId).
-abbrev pub heartbeats_to : Config → (final liveliness : Bool) → (peer number : ℕ) → (Endpoint → Contact) → Writer
+abbrev pub heartbeats_to : Roster → (final liveliness : Bool) → (peer number : ℕ) → (Endpoint → Contact) → Writer
     → List Endpoint → ℕ → List Submessage
-heartbeats_to config final liveliness peer number contacts w readers to =
+heartbeats_to roster final liveliness peer number contacts w readers to =
     if is_one_for_all contacts w to
-    then heartbeat_from final liveliness every_reader (writer_entity config peer number) (first_kept (history_of w))
+    then heartbeat_from final liveliness every_reader (writer_entity roster peer number) (first_kept (history_of w))
     (length (writer_changes w)) w ∷ []
-    else map (λ (r : Endpoint). heartbeat_from final liveliness (reader_entity config r.peer r.number)
-    (writer_entity config peer number) (begins_at w r) (ends_at contacts w r) w)
+    else map (λ (r : Endpoint). heartbeat_from final liveliness (reader_entity roster r.peer r.number)
+    (writer_entity roster peer number) (begins_at w r) (ends_at contacts w r) w)
     (filter (λ (r : Endpoint). r.peer == to) readers)
 
 -- the message to this peer with these
-abbrev pub heartbeats_due_to : Config → (final liveliness : Bool) → (peer number : ℕ) → (Endpoint → Contact) → Writer
+abbrev pub heartbeats_due_to : Roster → (final liveliness : Bool) → (peer number : ℕ) → (Endpoint → Contact) → Writer
     → List Endpoint → ℕ → Due
-heartbeats_due_to config final liveliness peer number contacts w readers to = record {
+heartbeats_due_to roster final liveliness peer number contacts w readers to = record {
   to = to;
   message = record {
-    prefix = prefix_of config peer;
+    prefix = roster.prefix peer;
     submessages =
-        InfoDst (prefix_of config to) ∷ heartbeats_to config final liveliness peer number contacts w readers to;
+        InfoDst (roster.prefix to) ∷ heartbeats_to roster final liveliness peer number contacts w readers to;
   };
 }
 
 -- what is due to these readers of a writer: a message to each of their peers
-abbrev pub heartbeats_for : Config → (final liveliness : Bool) → (peer number : ℕ) → (Endpoint → Contact) → Writer
+abbrev pub heartbeats_for : Roster → (final liveliness : Bool) → (peer number : ℕ) → (Endpoint → Contact) → Writer
     → List Endpoint → List Due
-heartbeats_for config final liveliness peer number contacts w readers =
-    map (heartbeats_due_to config final liveliness peer number contacts w readers) (peers_of readers)
+heartbeats_for roster final liveliness peer number contacts w readers =
+    map (heartbeats_due_to roster final liveliness peer number contacts w readers) (peers_of readers)
 
 -- at a tick, those that are behind are asked for an answer, as are those that ask, and the silent ones, while there are
 -- counts left
-abbrev pub heartbeats_of : Config → (ℕ → Endpoint → Contact) → ℕ → ℕ → Writer → List Due
-heartbeats_of config contacts peer number w =
+abbrev pub heartbeats_of : Roster → (ℕ → Endpoint → Contact) → ℕ → ℕ → Writer → List Due
+heartbeats_of roster contacts peer number w =
     if nat_lt (heartbeats_used w) max_count
-    then heartbeats_for config false false peer number (contacts number) w (readers_told (contacts number) w)
+    then heartbeats_for roster false false peer number (contacts number) w (readers_told (contacts number) w)
     else []
 
 -- the HEARTBEATs that are due at a tick from these writers, the first of which has this number
-abbrev pub heartbeats_from : Config → (ℕ → Endpoint → Contact) → ℕ → ℕ → List Writer → List Due
-heartbeats_from config contacts peer number [] = []
-heartbeats_from config contacts peer number (w ∷ ws) =
-    heartbeats_of config contacts peer number w ++ heartbeats_from config contacts peer (number + 1) ws
+abbrev pub heartbeats_from : Roster → (ℕ → Endpoint → Contact) → ℕ → ℕ → List Writer → List Due
+heartbeats_from roster contacts peer number [] = []
+heartbeats_from roster contacts peer number (w ∷ ws) =
+    heartbeats_of roster contacts peer number w ++ heartbeats_from roster contacts peer (number + 1) ws
 
 -- what is due at a tick of a peer, whose writers know this of their readers: the HEARTBEATs of its writers, in their
 -- order
-abbrev pub heartbeats_due : Config → (ℕ → Endpoint → Contact) → ℕ → Part → List Due
-heartbeats_due config contacts peer part = heartbeats_from config contacts peer 1 part.rtps.writers
+abbrev pub heartbeats_due : Roster → (ℕ → Endpoint → Contact) → ℕ → Part → List Due
+heartbeats_due roster contacts peer part = heartbeats_from roster contacts peer 1 part.rtps.writers
 
 -- a writer's assertion is told at once to all its matched readers, and asks for no answer (RTPS 2.5, 8.3.8: FinalFlag,
 -- LivelinessFlag)
-abbrev pub assertions_due : Config → (Endpoint → Contact) → Endpoint → Writer → List Due
-assertions_due config contacts writer w =
-    heartbeats_for config true true writer.peer writer.number contacts w w.matched
+abbrev pub assertions_due : Roster → (Endpoint → Contact) → Endpoint → Writer → List Due
+assertions_due roster contacts writer w =
+    heartbeats_for roster true true writer.peer writer.number contacts w w.matched
 
 -- the packet of a message that is due, in the one written form that it has
 abbrev pub packet_of : Due → Packet

@@ -2,13 +2,11 @@
 --
 -- A notion of this project, of the messages of RTPS 2.5, 8.4.9 (reliable StatefulWriter) and 8.4.12 (reliable
 -- StatefulReader); 8.3.8 has what each submessage means.
-use Rattle.std.specs.Prelude.{◌≡◌, ℕ, ◌<◌, ◌≤◌, ◌==◌, true, List, length, map, Some}
+use Rattle.std.specs.Prelude.{◌≡◌, ℕ, ◌<◌, ◌≤◌, ◌==◌, true, List, length, map, Some, IsSome}
 use Rattle.std.specs.List.{All, AllByRecursion, count_by}
 use Rattle.dds_base.specs.declared.change.Change.{Change}
-use Rattle.dds_base.specs.declared.config.Config.{Config}
-use Rattle.dds_base.specs.declared.config.PeerConfig.{PeerConfig}
-use Rattle.dds_base.specs.declared.config.ReaderConfig.{ReaderConfig}
-use Rattle.dds_base.specs.declared.config.WriterConfig.{WriterConfig}
+use Rattle.dds_protocol.specs.Roster.{Roster}
+use Rattle.dds_base.specs.declared.guid.EntityId.{EntityId}
 use Rattle.dds_base.specs.declared.endpoint.Endpoint.{Endpoint}
 use Rattle.dds_base.specs.Bounds.{end_of_moments, greatest_value, key_octets, max_ends, max_sn, window_width}
 use Rattle.dds_base.specs.Kept.{change_at}
@@ -24,7 +22,8 @@ use Rattle.dds_machine.specs.Calls.{CallStep, effect_of, tells}
 use Rattle.dds_machine.specs.Matching.{Telling, is_matched, knows_reader}
 use Rattle.dds_machine.specs.Part.{Part, ReaderProxy, TopicReader, Writer, own_writer, same_endpoint, writer_changes}
 use Rattle.dds_machine.specs.Watching.{Tests}
-use Rattle.dds_protocol.specs.Claims.{IsNumbered, Claim, Claims}
+use Rattle.dds_machine.specs.Numbered.{HasNumber}
+use Rattle.dds_protocol.specs.Claims.{Claim, Claims}
 use Rattle.dds_protocol.specs.Peer.{IsTrueAt}
 use Rattle.dds_protocol.specs.DueMessages.{Due}
 
@@ -38,28 +37,25 @@ abbrev pub AreTellable : Part → Type 0
 AreTellable part = (writer number : ℕ) (change : Change)
     → change_at (writer_changes (own_writer part writer)) number ≡ Some change → IsTellable change
 
--- the part is that of the configuration's peer of this number: it has that peer's writers, whoever is matched with them
-pub record IsPartOf (config : Config) (peer : ℕ) (part : Part) : Type 0 where
-  pub here : PeerConfig
-  pub at : IsNumbered config.peers peer here
-  pub writers : length part.rtps.writers ≡ length here.writers
+-- the part is one of the peer of this number: the roster has each of its writers, whoever is matched with them
+abbrev pub IsPartOf : Roster → ℕ → Part → Type 0
+IsPartOf roster peer part = (number : ℕ) → HasNumber part.rtps.writers number
+    → IsSome (roster.writers (record { peer = peer; number = number }))
 
 -- what the message claims, once it is written, is true of the peer's own lists and places
-abbrev pub IsTruthful : Config → ℕ → Part → Due → Type 0
-IsTruthful config peer part due = (claim : Claim) → IsWritable due.message
-    → Claims config (spelling_of due.message) claim → IsTrueAt peer part claim
+abbrev pub IsTruthful : Roster → ℕ → Part → Due → Type 0
+IsTruthful roster peer part due = (claim : Claim) → IsWritable due.message
+    → Claims roster (spelling_of due.message) claim → IsTrueAt peer part claim
 
 -- each of the messages is so
-abbrev pub AreTruthful : Config → ℕ → Part → List Due → Type 0
-AreTruthful config peer part dues = All (IsTruthful config peer part) dues
+abbrev pub AreTruthful : Roster → ℕ → Part → List Due → Type 0
+AreTruthful roster peer part dues = All (IsTruthful roster peer part) dues
 
--- the octets of a configuration's names: 12 of each peer's prefix, and 4 of each writer's and reader's entity id
-pub record IsSized (config : Config) : Type 0 where
-  pub prefix : (n : ℕ) (p : PeerConfig) → IsNumbered config.peers n p → length p.prefix.0 ≡ 12
-  pub writer : (n k : ℕ) (p : PeerConfig) (w : WriterConfig) → IsNumbered config.peers n p
-      → IsNumbered p.writers k w → IsEntityId w.entity
-  pub reader : (n k : ℕ) (p : PeerConfig) (r : ReaderConfig) → IsNumbered config.peers n p
-      → IsNumbered p.readers k r → IsEntityId r.entity
+-- the octets of the roster's names: 12 of each prefix, and 4 of each writer's and reader's entity id
+pub record IsSized (roster : Roster) : Type 0 where
+  pub prefix : (peer : ℕ) → length (roster.prefix peer).0 ≡ 12
+  pub writer : (writer : Endpoint) (entity : EntityId) → roster.writers writer ≡ Some entity → IsEntityId entity
+  pub reader : (reader : Endpoint) (entity : EntityId) → roster.readers reader ≡ Some entity → IsEntityId entity
 
 -- there are fewer than 2^62 changes, each with a key of 16 octets, a value of at most so many, which is at most 65,000,
 -- and a strength of 32 bits where it has one
@@ -93,17 +89,17 @@ abbrev pub HasFewMatches : Part → Type 0
 HasFewMatches part = (writer : ℕ) → MatchesFew (own_writer part writer)
 
 -- what the truth of due messages, and that they can be written, rest on stays so of a peer's part
-pub record StaysDue (config : Config) (peer : ℕ) (old new : Part) : Type 0 where
-  pub part : IsPartOf config peer old → IsPartOf config peer new
+pub record StaysDue (roster : Roster) (peer : ℕ) (old new : Part) : Type 0 where
+  pub part : IsPartOf roster peer old → IsPartOf roster peer new
   pub tellable : AreTellable old → AreTellable new
   pub small : HasSmallChanges old → HasSmallChanges new
   pub few : HasFewMatches old → HasFewMatches new
 
 -- so it is after a call that tells a writer or a reader that the two are matched, or no longer
 abbrev pub CallsStayDue : Type 0
-CallsStayDue = (config : Config) (peer : ℕ) (tests : Tests) (old : Part) (call : Call) (reply : Reply) (new : Part)
+CallsStayDue = (roster : Roster) (peer : ℕ) (tests : Tests) (old : Part) (call : Call) (reply : Reply) (new : Part)
     (telling : Telling) → effect_of old call reply ≡ tells telling → CallStep tests old call reply new
-    → StaysDue config peer old new
+    → StaysDue roster peer old new
 
 -- the set of an ACKNACK has its 256 places
 abbrev pub HasPlaces : Submessage → Type 0

@@ -4,6 +4,7 @@
 -- A notion of this project, of RTPS 2.5, 8.4.7 (ReaderProxy), 8.3.8 (AckNack).
 use Rattle.std.specs.Prelude.{◌≡◌, ℕ, false, List, [], ◌∷◌}
 use Rattle.dds_base.specs.declared.config.Config.{Config}
+use Rattle.dds_protocol.specs.Roster.{Roster}
 use Rattle.dds_base.specs.declared.endpoint.Endpoint.{Endpoint}
 use Rattle.dds_machine.specs.declared.call.Call.TheVariants.{MatchReader}
 use Rattle.dds_machine.specs.declared.event.WorldEvent.{WorldEvent}
@@ -35,12 +36,12 @@ OpensAnswered = (config : Config) → NobodyIsSilent (opening_world config)
 
 -- every event of a network by the rules at which nobody is greeted leaves it so
 abbrev pub StaysAnswered : Type 0
-StaysAnswered = (config : Config) (tests : AllTests) (old : WorldState) (event : WorldEvent) (reply : Reply) (lost : ℕ)
+StaysAnswered = (roster : Roster) (tests : AllTests) (old : WorldState) (event : WorldEvent) (reply : Reply) (lost : ℕ)
     (new : WorldState) → GreetsNobody event → NobodyIsSilent old
-    → RuledStep config tests old event reply lost new → NobodyIsSilent new
+    → RuledStep roster tests old event reply lost new → NobodyIsSilent new
 
 -- and so does every run of such events
 abbrev pub RunsAnswered : Type 0
-RunsAnswered = (config : Config) (tests : AllTests) (old : WorldState) (unsent : ℕ) (events : List WorldEvent)
+RunsAnswered = (roster : Roster) (tests : AllTests) (old : WorldState) (unsent : ℕ) (events : List WorldEvent)
     (replies : List Reply) (new : WorldState) (last : ℕ) → NobodyGreeted events → NobodyIsSilent old
-    → RuledRun config tests old unsent events replies new last → NobodyIsSilent new
+    → RuledRun roster tests old unsent events replies new last → NobodyIsSilent new

@@ -2,7 +2,7 @@
 --
 -- The laws are this project's own; what they speak of is in RTPS 2.5, 8.3.8 and 8.4 (behaviour), and DDS 1.4,
 -- 2.2.3 (HISTORY: KEEP_ALL; OWNERSHIP).
-use Rattle.std.specs.Prelude.{◌≡◌, ◌≢◌, ◌⊎◌, ℕ, ◌<◌, ◌≤◌, true, Some, None, IsSome, List, [], ◌∷◌, length, Contains}
+use Rattle.std.specs.Prelude.{◌≡◌, ◌≢◌, ◌⊎◌, ℕ, ◌<◌, ◌≤◌, true, Some, IsSome, List, [], ◌∷◌, length, Contains}
 use Rattle.std.specs.List.{All}
 use Rattle.dds_base.specs.declared.config.Config.{Config}
 use Rattle.dds_base.specs.declared.config.PeerConfig.{PeerConfig}
@@ -43,34 +43,34 @@ use Rattle.dds_machine.specs.Runs.{Run}
 use Rattle.dds_machine.specs.Part.{Part, own_writer, own_reader, owed_from, publication_among}
 use Rattle.dds_machine.specs.Opening.{matched_writers, reader_qos}
 use Rattle.dds_protocol.specs.Opening.{opening_world}
-use Rattle.dds_protocol.specs.Roster.{IsRoster}
+use Rattle.dds_protocol.specs.Roster.{AreGood, IsRoster, Roster, roster_of}
 
 -- a step of peers, on packets that were sent, is a step of the machine, which takes up what is delivered, and leaves
 -- all claims true
 abbrev pub Composes : Type 0
-Composes = (config : Config) (tests : AllTests) (old new : WorldState) (event : WorldEvent) (reply : Reply)
-    → Sound config old → WorldStep config tests old event reply new
+Composes = (roster : Roster) (tests : AllTests) (old new : WorldState) (event : WorldEvent) (reply : Reply)
+    → Sound roster old → WorldStep roster tests old event reply new
     → Step tests (length old.sent) (machine_of old) event reply (machine_of new)
-    × Progresses config old.sent (machine_of old) event reply × Sound config new
+    × Progresses roster old.sent (machine_of old) event reply × Sound roster new
 
 -- all claims are true at the opening of every configuration
 abbrev pub OpensSound : Type 0
-OpensSound = (config : Config) → Sound config (opening_world config)
+OpensSound = (config : Config) → Sound (roster_of config) (opening_world config)
 
 -- a run of peers
-abbrev pub WorldRun : Config → AllTests → WorldState → List WorldEvent → List Reply → WorldState → Type 0
-WorldRun config tests old [] [] new = new ≡ old
-WorldRun config tests old (event ∷ events) (reply ∷ replies) new =
-    (mid : WorldState) × WorldStep config tests old event reply mid
-    × WorldRun config tests (world_ended old event mid) events replies new
-WorldRun config tests old [] (reply ∷ replies) new = ⊥
-WorldRun config tests old (event ∷ events) [] new = ⊥
+abbrev pub WorldRun : Roster → AllTests → WorldState → List WorldEvent → List Reply → WorldState → Type 0
+WorldRun roster tests old [] [] new = new ≡ old
+WorldRun roster tests old (event ∷ events) (reply ∷ replies) new =
+    (mid : WorldState) × WorldStep roster tests old event reply mid
+    × WorldRun roster tests (world_ended old event mid) events replies new
+WorldRun roster tests old [] (reply ∷ replies) new = ⊥
+WorldRun roster tests old (event ∷ events) [] new = ⊥
 
 -- a run of peers is a run of the machine
 abbrev pub ComposesRuns : Type 0
-ComposesRuns = (config : Config) (tests : AllTests) (old new : WorldState) (events : List WorldEvent)
-    (replies : List Reply) → Sound config old → WorldRun config tests old events replies new
-    → Run tests (length old.sent) (machine_of old) events replies (length new.sent) (machine_of new) × Sound config new
+ComposesRuns = (roster : Roster) (tests : AllTests) (old new : WorldState) (events : List WorldEvent)
+    (replies : List Reply) → Sound roster old → WorldRun roster tests old events replies new
+    → Run tests (length old.sent) (machine_of old) events replies (length new.sent) (machine_of new) × Sound roster new
 
 -- no change of this writer is passed over by the peer's reader of this number
 abbrev pub PassesNone : Endpoint → ℕ → List Move → Type 0
@@ -137,7 +137,7 @@ pub record TellsWritersApart (peers : List PeerConfig) (reader : ReaderConfig) :
 -- so does each reader of a configuration that is not refused
 abbrev pub ReadersTellWritersApart : Type 0
 ReadersTellWritersApart =
-    (config : Config) (peer : PeerConfig) (reader : ReaderConfig) → IsRoster config.peers
+    (config : Config) (peer : PeerConfig) (reader : ReaderConfig) → AreGood config.peers
     → Contains config.peers peer → Contains peer.readers reader
     → TellsWritersApart config.peers reader
 
@@ -145,75 +145,75 @@ ReadersTellWritersApart =
 -- configuration does not list
 abbrev pub OwnersExist : Type 0
 OwnersExist = (config : Config) (peer : PeerConfig) (reader : ReaderConfig) (i : Key) (h : List Happening)
-    → IsRoster config.peers → Contains config.peers peer → joined_in h ≡ []
+    → AreGood config.peers → Contains config.peers peer → joined_in h ≡ []
     → Contains peer.readers reader → registered_writers (reader_qos config.peers reader) i h ≢ []
     → IsSome (owner_of (reader_qos config.peers reader) h (registered_writers (reader_qos config.peers reader) i h))
 
 -- what a peer does with a packet by the rules of the protocol rests on what that packet and earlier ones claim, and
 -- what it knows then is what they claim
 abbrev pub RulesRestOnClaims : Type 0
-RulesRestOnClaims = (config : Config) (peer : ℕ) (before : List Delivery) (bytes : List ℕ) (old : State)
-    (report : Report) (dues : List Due) (new : State) → IsRoster config.peers
-    → IsBacked config peer (packets_of before) before old → TakesPacket config peer bytes old report dues new
-    → Receives config (claimed config before bytes old.part.rtps.readers peer) peer bytes old.part report new.part
-    × IsBacked config peer (bytes ∷ packets_of before)
+RulesRestOnClaims = (roster : Roster) (peer : ℕ) (before : List Delivery) (bytes : List ℕ) (old : State)
+    (report : Report) (dues : List Due) (new : State) → IsRoster roster
+    → IsBacked roster peer (packets_of before) before old → TakesPacket roster peer bytes old report dues new
+    → Receives roster (claimed roster before bytes old.part.rtps.readers peer) peer bytes old.part report new.part
+    × IsBacked roster peer (bytes ∷ packets_of before)
     (record { packet = bytes; rows = old.part.rtps.readers; report = report } ∷ before) new
 
 -- so does what it does where the places of a reader are tried again, on what earlier packets claim
 abbrev pub ResumesRestOnClaims : Type 0
-ResumesRestOnClaims = (config : Config) (peer reader : ℕ) (deliveries : List Delivery) (old : State) (report : Report)
-    (new : State) → IsBacked config peer (packets_of deliveries) deliveries old → Resumes reader old report new
+ResumesRestOnClaims = (roster : Roster) (peer reader : ℕ) (deliveries : List Delivery) (old : State) (report : Report)
+    (new : State) → IsBacked roster peer (packets_of deliveries) deliveries old → Resumes reader old report new
     → ArePlaces reader report.moves
-    × AreMoves (claimed_by config (packets_of deliveries) peer) old.part report.moves new.part
-    × IsBacked config peer (packets_of deliveries) deliveries new
+    × AreMoves (claimed_by roster (packets_of deliveries) peer) old.part report.moves new.part
+    × IsBacked roster peer (packets_of deliveries) deliveries new
 
 -- at the opening a peer knows nothing, so all that it knows is what was claimed
 abbrev pub OpensBacked : Type 0
-OpensBacked = (config : Config) (peer : ℕ)
-    → IsBacked config peer [] [] (state_of (numbered (opening_world config).peers peer no_peer))
+OpensBacked = (config : Config) (roster : Roster) (peer : ℕ)
+    → IsBacked roster peer [] [] (state_of (numbered (opening_world config).peers peer no_peer))
 
 -- what is due once a peer took a packet up by the rules claims only what is true of the peer's own lists and places
 abbrev pub AnswersAreTrue : Type 0
-AnswersAreTrue = (config : Config) (peer : ℕ) (before : List Delivery) (bytes : List ℕ) (old : State) (report : Report)
-    (dues : List Due) (new : State) → IsRoster config.peers
-    → IsBacked config peer (packets_of before) before old → AreTellable old.part
-    → TakesPacket config peer bytes old report dues new
-    → AreTruthful config peer new.part dues
+AnswersAreTrue = (roster : Roster) (peer : ℕ) (before : List Delivery) (bytes : List ℕ) (old : State) (report : Report)
+    (dues : List Due) (new : State) → IsRoster roster
+    → IsBacked roster peer (packets_of before) before old → AreTellable old.part
+    → TakesPacket roster peer bytes old report dues new
+    → AreTruthful roster peer new.part dues
 
--- Each of these messages can be written, in a configuration whose names have their octets, where the changes are small
+-- Each of these messages can be written, by a roster whose names have their octets, where the changes are small
 -- and the sets of ACKNACKs have their places: so a peer that has memory sends it.
 abbrev pub AnswersCanBeWritten : Type 0
-AnswersCanBeWritten = (config : Config) (peer : ℕ) (before : List Delivery) (bytes : List ℕ) (old : State)
-    (report : Report) (dues : List Due) (new : State) → IsRoster config.peers
-    → IsBacked config peer (packets_of before) before old → AreTellable old.part
-    → TakesPacket config peer bytes old report dues new → IsSized config → HasSmallChanges old.part
+AnswersCanBeWritten = (roster : Roster) (peer : ℕ) (before : List Delivery) (bytes : List ℕ) (old : State)
+    (report : Report) (dues : List Due) (new : State) → IsRoster roster
+    → IsBacked roster peer (packets_of before) before old → AreTellable old.part
+    → TakesPacket roster peer bytes old report dues new → IsSized roster → HasSmallChanges old.part
     → All CanBeWritten dues
 
 -- so do the HEARTBEATs that are due at a tick, whichever readers ask for one, or are silent
 abbrev pub HeartbeatsAreTrue : Type 0
-HeartbeatsAreTrue = (config : Config) (contacts : ℕ → Endpoint → Contact) (peer : ℕ) (old : Part) (now : ℕ)
-    (reply : Reply) (new : Part) → IsRoster config.peers → IsPartOf config peer old
-    → TickStep old now reply new → AreTruthful config peer new (heartbeats_due config contacts peer old)
+HeartbeatsAreTrue = (roster : Roster) (contacts : ℕ → Endpoint → Contact) (peer : ℕ) (old : Part) (now : ℕ)
+    (reply : Reply) (new : Part) → IsRoster roster → IsPartOf roster peer old
+    → TickStep old now reply new → AreTruthful roster peer new (heartbeats_due roster contacts peer old)
 
--- each message with them can be written, in a configuration whose names have their octets, where the changes are small
+-- each message with them can be written, by a roster whose names have their octets, where the changes are small
 -- and the matched readers few
 abbrev pub HeartbeatsCanBeWritten : Type 0
-HeartbeatsCanBeWritten = (config : Config) (contacts : ℕ → Endpoint → Contact) (peer : ℕ) (part : Part)
-    → IsPartOf config peer part → IsSized config → HasSmallChanges part → HasFewMatches part
-    → All CanBeWritten (heartbeats_due config contacts peer part)
+HeartbeatsCanBeWritten = (roster : Roster) (contacts : ℕ → Endpoint → Contact) (peer : ℕ) (part : Part)
+    → IsPartOf roster peer part → IsSized roster → HasSmallChanges part → HasFewMatches part
+    → All CanBeWritten (heartbeats_due roster contacts peer part)
 
 -- and the HEARTBEATs that tell an assertion are true of the peer that has entered it
 abbrev pub AssertionsAreTrue : Type 0
-AssertionsAreTrue = (config : Config) (tests : Tests) (contacts : Endpoint → Contact) (peer writer : ℕ) (old new : Part)
-    → IsRoster config.peers
-    → IsPartOf config peer old → CallStep tests old (AssertLiveliness writer) Done new
-    → AreTruthful config peer new
-    (assertions_due config contacts (record { peer = peer; number = writer }) (own_writer old writer))
+AssertionsAreTrue = (roster : Roster) (tests : Tests) (contacts : Endpoint → Contact) (peer writer : ℕ) (old new : Part)
+    → IsRoster roster
+    → IsPartOf roster peer old → CallStep tests old (AssertLiveliness writer) Done new
+    → AreTruthful roster peer new
+    (assertions_due roster contacts (record { peer = peer; number = writer }) (own_writer old writer))
 
 -- each message that tells an assertion can be written too
 abbrev pub AssertionsCanBeWritten : Type 0
-AssertionsCanBeWritten = (config : Config) (tests : Tests) (contacts : Endpoint → Contact) (peer writer : ℕ)
-    (old new : Part) → IsPartOf config peer old → CallStep tests old (AssertLiveliness writer) Done new
-    → IsSized config → HasSmallChanges old → HasFewMatches old
+AssertionsCanBeWritten = (roster : Roster) (tests : Tests) (contacts : Endpoint → Contact) (peer writer : ℕ)
+    (old new : Part) → IsPartOf roster peer old → CallStep tests old (AssertLiveliness writer) Done new
+    → IsSized roster → HasSmallChanges old → HasFewMatches old
     → All CanBeWritten
-    (assertions_due config contacts (record { peer = peer; number = writer }) (own_writer old writer))
+    (assertions_due roster contacts (record { peer = peer; number = writer }) (own_writer old writer))

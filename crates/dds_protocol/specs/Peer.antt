@@ -4,7 +4,7 @@
 -- RTPS 2.5, 8.2 (Participant), 8.4 (behaviour). That packets make claims, on which a step rests, is a notion of
 -- this project.
 use Rattle.std.specs.Prelude.{◌≡◌, ◌⊎◌, ℕ, ◌<◌, ◌&&◌, true, false, List, [], ◌∷◌, map, Option, Some, None, ℤ, ◌<ℤ◌, Contains}
-use Rattle.dds_base.specs.declared.config.Config.{Config}
+use Rattle.dds_protocol.specs.Roster.{Roster}
 use Rattle.dds_base.specs.declared.guid.GuidPrefix.{GuidPrefix}
 use Rattle.dds_base.specs.Kept.{change_at, is_dropped}
 use Rattle.rtps_wire.specs.declared.heartbeat.Heartbeat.{Heartbeat as HeartbeatBody}
@@ -64,20 +64,20 @@ IsBefore index (Some refused) = index < refused
 
 -- a HEARTBEAT of this count from the writer was applied at the reader: it stands in the packet, before what found no
 -- memory, and the two were matched
-pub record IsApplied (config : Config) (delivery : Delivery) (writer reader : Endpoint) (count : ℤ) : Type 0 where
+pub record IsApplied (roster : Roster) (delivery : Delivery) (writer reader : Endpoint) (count : ℤ) : Type 0 where
   pub own : GuidPrefix
   pub at : Receiver
   pub heartbeat : HeartbeatBody
   pub there : StandsIn delivery.packet own at (Heartbeat heartbeat)
   pub before : IsBefore there.index delivery.report.refused
-  pub is_to : IsToReader config own at heartbeat.reader_id heartbeat.writer_id writer reader
+  pub is_to : IsToReader roster own at heartbeat.reader_id heartbeat.writer_id writer reader
   pub same_count : heartbeat.count ≡ count
   pub met : is_attached (how_of (numbered delivery.rows reader.number []) writer) ≡ true
 
 -- the count is above those of all HEARTBEATs of the writer that were applied at the reader by these deliveries
-abbrev pub IsNewest : Config → List Delivery → Endpoint → Endpoint → ℤ → Type 0
-IsNewest config deliveries writer reader count =
-    (delivery : Delivery) (earlier : ℤ) → Contains deliveries delivery → IsApplied config delivery writer reader earlier
+abbrev pub IsNewest : Roster → List Delivery → Endpoint → Endpoint → ℤ → Type 0
+IsNewest roster deliveries writer reader count =
+    (delivery : Delivery) (earlier : ℤ) → Contains deliveries delivery → IsApplied roster delivery writer reader earlier
     → earlier <ℤ count
 
 -- the packet, which found these rows, as far as the submessage of this index
@@ -86,24 +86,24 @@ delivered_to packet rows index =
     record { packet = packet; rows = rows; report = record { moves = []; refused = Some index } }
 
 -- what these packets claim to the peer of this number; that nobody is heard by them
-abbrev pub claimed_by : Config → List (List ℕ) → ℕ → Grounds
-claimed_by config packets peer = record {
+abbrev pub claimed_by : Roster → List (List ℕ) → ℕ → Grounds
+claimed_by roster packets peer = record {
   is_change = λ writer reader number change.
-      Claimed config packets (ChangeIs writer (record { peer = peer; number = reader }) number change);
+      Claimed roster packets (ChangeIs writer (record { peer = peer; number = reader }) number change);
   may_pass = λ writer reader number.
-      Claimed config packets (MayPass writer (record { peer = peer; number = reader }) number);
+      Claimed roster packets (MayPass writer (record { peer = peer; number = reader }) number);
   has_place = λ writer reader base.
-      Claimed config packets (PlaceReached (record { peer = peer; number = writer }) reader base);
+      Claimed roster packets (PlaceReached (record { peer = peer; number = writer }) reader base);
   may_hear = λ writer reader count. ⊥;
 }
 
 -- what a packet, which found these rows, claims to the peer of this number when it comes to the submessage of this
 -- index, with what was delivered before
-abbrev pub claimed : Config → List Delivery → List ℕ → List (List WriterProxy) → ℕ → ℕ → Grounds
-claimed config before packet rows peer index = record (claimed_by config (packet ∷ packets_of before) peer) {
+abbrev pub claimed : Roster → List Delivery → List ℕ → List (List WriterProxy) → ℕ → ℕ → Grounds
+claimed roster before packet rows peer index = record (claimed_by roster (packet ∷ packets_of before) peer) {
   may_hear = λ writer reader count.
-      Claimed config (packet ∷ packets_of before) (Asserts writer (record { peer = peer; number = reader }) count)
-      × IsNewest config (delivered_to packet rows index ∷ before) writer (record { peer = peer; number = reader }) count;
+      Claimed roster (packet ∷ packets_of before) (Asserts writer (record { peer = peer; number = reader }) count)
+      × IsNewest roster (delivered_to packet rows index ∷ before) writer (record { peer = peer; number = reader }) count;
 }
 
 -- the claim is true of the peer's own lists and places
@@ -121,19 +121,19 @@ IsTrueAt peer part (Asserts writer reader count) =
 
 -- an event of a peer: a delivery rests on the claims of this and of earlier packets, and places that are tried again on
 -- those of earlier ones
-abbrev pub EventStep : Config → Tests → Peer → Event → Reply → Peer → Type 0
-EventStep config tests old (event.Call call) reply new =
+abbrev pub EventStep : Roster → Tests → Peer → Event → Reply → Peer → Type 0
+EventStep roster tests old (event.Call call) reply new =
     CallStep tests old.part call reply new.part × (new.delivered ≡ old.delivered)
-EventStep config tests old (event.Tick now) reply new =
+EventStep roster tests old (event.Tick now) reply new =
     TicksAsked (was_asked old.known.answered old.part) old.part now reply new.part
     × (new.delivered ≡ old.delivered)
-EventStep config tests old (event.Deliver packet) (Reported report) new =
-    Receives config (claimed config old.delivered packet old.part.rtps.readers old.number) old.number packet old.part
+EventStep roster tests old (event.Deliver packet) (Reported report) new =
+    Receives roster (claimed roster old.delivered packet old.part.rtps.readers old.number) old.number packet old.part
     report new.part
     × (new.delivered ≡ record { packet = packet; rows = old.part.rtps.readers; report = report } ∷ old.delivered)
-EventStep config tests old (event.Deliver packet) reply new = ⊥
-EventStep config tests old (event.Resume reader) reply new =
-    ResumeStep (claimed_by config (packets_of old.delivered) old.number) old.part reader reply new.part
+EventStep roster tests old (event.Deliver packet) reply new = ⊥
+EventStep roster tests old (event.Resume reader) reply new =
+    ResumeStep (claimed_by roster (packets_of old.delivered) old.number) old.part reader reply new.part
     × (new.delivered ≡ old.delivered)
 
 -- what a peer knows once a call was answered so: a reader that a writer is told of asks for nothing; where it is a
@@ -157,10 +157,10 @@ Knows old (event.Tick now) Done new = new.known ≡ asked_no_more old.known
 Knows old other reply new = new.known ≡ old.known
 
 -- one step of a peer, and what it sends is true
-pub record PeerStep (config : Config) (tests : Tests) (old : Peer) (event : Event) (output : Output)
+pub record PeerStep (roster : Roster) (tests : Tests) (old : Peer) (event : Event) (output : Output)
     (new : Peer) : Type 0 where
   pub same_number : new.number ≡ old.number
   pub knows : Knows old event output.reply new
-  pub step : EventStep config tests old event output.reply new
-  pub sent : (packet : Packet) (claim : Claim) → Contains output.packets packet → Claims config packet.bytes claim
+  pub step : EventStep roster tests old event output.reply new
+  pub sent : (packet : Packet) (claim : Claim) → Contains output.packets packet → Claims roster packet.bytes claim
       → IsTrueAt new.number new.part claim

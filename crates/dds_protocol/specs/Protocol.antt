@@ -3,7 +3,7 @@
 -- RTPS 2.5, 8.4.9 (reliable StatefulWriter), 8.4.12 (reliable StatefulReader).
 use Rattle.std.specs.Prelude.{◌<◌, ◌≡◌, ◌≢◌, ◌⊎◌, ℕ, ◌+◌, ◌≤◌, ◌==◌, ◌&&◌, ◌||◌, Bool, true, false, not, if◌then◌else◌, nat_lt, nat_le, max, List, [], ◌∷◌, ◌++◌, length, map, Option, Some, None, ℤ}
 use Rattle.dds_base.specs.declared.change.Change.{Change}
-use Rattle.dds_base.specs.declared.config.Config.{Config}
+use Rattle.dds_protocol.specs.Roster.{Roster}
 use Rattle.dds_base.specs.declared.guid.EntityId.{EntityId}
 use Rattle.dds_base.specs.declared.guid.GuidPrefix.{GuidPrefix}
 use Rattle.dds_base.specs.declared.happening.Happening.{Happening}
@@ -11,7 +11,7 @@ use Rattle.dds_base.specs.declared.happening.Happening.TheVariants.{Heard as Was
 use Rattle.dds_base.specs.declared.happening.PassedRun.{PassedRun}
 use Rattle.dds_base.specs.Bounds.{usual_value}
 use Rattle.dds_base.specs.Kept.{numbers_from, is_kept}
-use Rattle.dds_base.specs.Matched.{is_reliable, is_reliable_reader}
+use Rattle.dds_base.specs.Matched.{is_reliable}
 use Rattle.dds_base.specs.Places.{Match}
 use Rattle.dds_base.specs.Counts.{is_later}
 use Rattle.rtps_wire.specs.declared.acknack.AckNack.{AckNack as AckNackBody}
@@ -35,10 +35,11 @@ use Rattle.dds_machine.specs.declared.reply.Report.{Report}
 use Rattle.dds_machine.specs.declared.reply.Move.{Move}
 use Rattle.dds_machine.specs.declared.reply.Move.TheVariants.{Place, Acknowledged, Heard, Begun as HasBegun, Strange}
 use Rattle.dds_machine.specs.Part.{Attachment, Away, Waiting, Begun, is_attached, how_of, Part, ReaderProxy, Writer, same_endpoint, own_writer, own_proxies, own_reader, acknowledged_of, with_acknowledged, place_of, with_place, with_begun, with_heard, publication_among, at_reader, at_writer, writer_changes, history_of, owed_from}
+use Rattle.dds_machine.specs.Matching.{is_known}
 use Rattle.dds_machine.specs.Moves.{IsMatchedAt, match_of}
 use Rattle.dds_protocol.specs.Claims.{Receiver, receiver_of, after_submessage, IsToReader, IsToWriter}
 use Rattle.dds_protocol.specs.Contact.{Contact, no_contact}
-use Rattle.dds_protocol.specs.Receipt.{prefix_of, IsNotTaken}
+use Rattle.dds_protocol.specs.Receipt.{IsNotTaken}
 use Rattle.dds_protocol.specs.DueMessages.{Due, answer_message, acknacks_due}
 
 -- What a peer knows beside its part of the machine: what each of its readers has heard of a matched writer's changes,
@@ -251,34 +252,35 @@ MeetsHeartbeat Waiting false own at old writer reader entity h moves dues new =
 MeetsHeartbeat how reliable own at old writer reader entity h moves dues new =
     TakesOrNot own at old writer reader entity (heard_as reliable h) moves dues new
 
--- the submessage names the peer's reader, which is of this reliability, and is of a writer that is matched with it: the
--- reader takes it so; else it is nothing to the reader
-abbrev pub WhereMatched : Config → GuidPrefix → Receiver → EntityId → EntityId → Endpoint
+-- the submessage names the peer's reader, which is of this reliability, and is of a writer that is matched with it, and
+-- which it knows: the reader takes it so; else it is nothing to the reader
+abbrev pub WhereMatched : Roster → GuidPrefix → Receiver → EntityId → EntityId → Part → Endpoint
     → (Endpoint → EntityId → Bool → Type 0) → Type 0 → Type 0
-WhereMatched config own at reader_id writer_id reader Takes Idle =
-    ((writer : Endpoint) × (is : IsToReader config own at reader_id writer_id writer reader)
-    × Takes writer is.entity (is_reliable_reader is.to.end))
-    ⊎ (((writer : Endpoint) → IsToReader config own at reader_id writer_id writer reader → ⊥) × Idle)
+WhereMatched roster own at reader_id writer_id part reader Takes Idle =
+    ((writer : Endpoint) × (is : IsToReader roster own at reader_id writer_id writer reader)
+    × (is_known (own_proxies part reader.number) writer ≡ true) × Takes writer is.entity (roster.is_reliable reader))
+    ⊎ (((writer : Endpoint) → IsToReader roster own at reader_id writer_id writer reader
+    → is_known (own_proxies part reader.number) writer ≡ false) × Idle)
 
 -- what the peer's reader of this number does with a submessage
-abbrev pub ReaderTakes : Config → GuidPrefix → ℕ → Receiver → Submessage → ℕ → State → List Move → List Due → State
+abbrev pub ReaderTakes : Roster → GuidPrefix → ℕ → Receiver → Submessage → ℕ → State → List Move → List Due → State
     → Type 0
-ReaderTakes config own peer at (Data d) reader old moves dues new =
-    WhereMatched config own at d.reader_id d.writer_id (record { peer = peer; number = reader })
+ReaderTakes roster own peer at (Data d) reader old moves dues new =
+    WhereMatched roster own at d.reader_id d.writer_id old.part (record { peer = peer; number = reader })
     (λ writer entity reliable. MeetsChange (stands_to old writer reader) reliable old writer reader d.writer_sn
     (change_in d.content at.timestamp) moves new × (dues ≡ []))
     (Idles old moves dues new)
-ReaderTakes config own peer at (Gap g) reader old moves dues new =
-    WhereMatched config own at g.reader_id g.writer_id (record { peer = peer; number = reader })
+ReaderTakes roster own peer at (Gap g) reader old moves dues new =
+    WhereMatched roster own at g.reader_id g.writer_id old.part (record { peer = peer; number = reader })
     (λ writer entity reliable.
     MeetsGap (stands_to old writer reader) reliable old writer reader g moves new × (dues ≡ []))
     (Idles old moves dues new)
-ReaderTakes config own peer at (Heartbeat h) reader old moves dues new =
-    WhereMatched config own at h.reader_id h.writer_id (record { peer = peer; number = reader })
+ReaderTakes roster own peer at (Heartbeat h) reader old moves dues new =
+    WhereMatched roster own at h.reader_id h.writer_id old.part (record { peer = peer; number = reader })
     (λ writer entity reliable.
     MeetsHeartbeat (stands_to old writer reader) reliable own at old writer reader entity h moves dues new)
     (Idles old moves dues new)
-ReaderTakes config own peer at submessage reader old moves dues new = Idles old moves dues new
+ReaderTakes roster own peer at submessage reader old moves dues new = Idles old moves dues new
 
 -- how many answers stand in a message of a writer whose values have at most so many octets: eight where that is no more
 -- than usual, else one
@@ -354,43 +356,43 @@ is_taken_up old writer reader a =
 
 -- The ACKNACK is from this reader of the peer's writer, which is matched with it, and its base is past the next number:
 -- it acknowledges changes that the writer has not made.
-pub record IsStranger (config : Config) (own : GuidPrefix) (peer : ℕ) (at : Receiver) (a : AckNackBody) (writer : ℕ)
+pub record IsStranger (roster : Roster) (own : GuidPrefix) (peer : ℕ) (at : Receiver) (a : AckNackBody) (writer : ℕ)
     (reader : Endpoint) (old : State) : Type 0 where
-  pub is : IsToWriter config own at a.reader_id a.writer_id (record { peer = peer; number = writer }) reader
+  pub is : IsToWriter roster own at a.reader_id a.writer_id (record { peer = peer; number = writer }) reader
   pub acknowledged : ℕ
   pub matched : acknowledged_of (own_writer old.part writer).readers reader ≡ Some acknowledged
   pub beyond : length (writer_changes (own_writer old.part writer)) + 1 < a.reader_sn_state.base
 
 -- what is reported of an ACKNACK that is not taken: who is so strange
-abbrev pub SaysStranger : Config → GuidPrefix → ℕ → Receiver → AckNackBody → ℕ → Endpoint → State → List Move → Type 0
-SaysStranger config own peer at a writer reader old moves =
-    (IsStranger config own peer at a writer reader old × (moves ≡ Strange writer reader ∷ []))
-    ⊎ ((IsStranger config own peer at a writer reader old → ⊥) × (moves ≡ []))
+abbrev pub SaysStranger : Roster → GuidPrefix → ℕ → Receiver → AckNackBody → ℕ → Endpoint → State → List Move → Type 0
+SaysStranger roster own peer at a writer reader old moves =
+    (IsStranger roster own peer at a writer reader old × (moves ≡ Strange writer reader ∷ []))
+    ⊎ ((IsStranger roster own peer at a writer reader old → ⊥) × (moves ≡ []))
 
 -- an ACKNACK that is not taken changes nothing
-abbrev pub PassesAckNack : Config → GuidPrefix → ℕ → Receiver → AckNackBody → ℕ → Endpoint → State → List Move → List Due
+abbrev pub PassesAckNack : Roster → GuidPrefix → ℕ → Receiver → AckNackBody → ℕ → Endpoint → State → List Move → List Due
     → State → Type 0
-PassesAckNack config own peer at a writer reader old moves dues new =
-    SaysStranger config own peer at a writer reader old moves × (dues ≡ []) × (new ≡ old)
+PassesAckNack roster own peer at a writer reader old moves dues new =
+    SaysStranger roster own peer at a writer reader old moves × (dues ≡ []) × (new ≡ old)
 
 -- what the peer's writer of this number does with an ACKNACK as to one of its matched readers, which may have sent it
-abbrev pub WriterTakes : Config → GuidPrefix → ℕ → Receiver → AckNackBody → ℕ → Endpoint → State → List Move → List Due
+abbrev pub WriterTakes : Roster → GuidPrefix → ℕ → Receiver → AckNackBody → ℕ → Endpoint → State → List Move → List Due
     → State → Type 0
-WriterTakes config own peer at a writer reader old moves dues new =
-    ((is : IsToWriter config own at a.reader_id a.writer_id (record { peer = peer; number = writer }) reader)
+WriterTakes roster own peer at a writer reader old moves dues new =
+    ((is : IsToWriter roster own at a.reader_id a.writer_id (record { peer = peer; number = writer }) reader)
     × (is_taken_up old writer reader a ≡ true) × TakesAckNack own at old writer reader is.entity a moves dues new)
-    ⊎ ((IsToWriter config own at a.reader_id a.writer_id (record { peer = peer; number = writer }) reader
-    → is_taken_up old writer reader a ≡ false) × PassesAckNack config own peer at a writer reader old moves dues new)
+    ⊎ ((IsToWriter roster own at a.reader_id a.writer_id (record { peer = peer; number = writer }) reader
+    → is_taken_up old writer reader a ≡ false) × PassesAckNack roster own peer at a writer reader old moves dues new)
 
 -- a submessage is taken up: an ACKNACK by each of the peer's writers, as to each of its matched readers; any other one
 -- by each of its readers
-abbrev pub Takes : Config → GuidPrefix → ℕ → Receiver → Submessage → State → List Move → List Due → State → Type 0
-Takes config own peer at (AckNack a) old moves dues new =
-    InTurn (λ (writer : ℕ). InTurn (λ (p : ReaderProxy). WriterTakes config own peer at a writer p.reader)
+abbrev pub Takes : Roster → GuidPrefix → ℕ → Receiver → Submessage → State → List Move → List Due → State → Type 0
+Takes roster own peer at (AckNack a) old moves dues new =
+    InTurn (λ (writer : ℕ). InTurn (λ (p : ReaderProxy). WriterTakes roster own peer at a writer p.reader)
     (own_writer old.part writer).readers)
     (numbers_from 1 (length old.part.rtps.writers)) old moves dues new
-Takes config own peer at submessage old moves dues new =
-    InTurn (ReaderTakes config own peer at submessage)
+Takes roster own peer at submessage old moves dues new =
+    InTurn (ReaderTakes roster own peer at submessage)
     (numbers_from 1 (length old.part.rtps.readers)) old moves dues new
 
 -- A submessage of a writer may do something at a reader that knows this of the writer, by the reader's reliability: a
@@ -404,48 +406,48 @@ may_do reliable t (Heartbeat h) = is_later t.count h.count
 may_do reliable t submessage = false
 
 -- it names a reader of the peer, is of a writer that is matched with it, and may do something there
-abbrev pub MayDoAt : Config → GuidPrefix → ℕ → Receiver → EntityId → EntityId → Submessage → State → Type 0
-MayDoAt config own peer at reader_id writer_id submessage old =
+abbrev pub MayDoAt : Roster → GuidPrefix → ℕ → Receiver → EntityId → EntityId → Submessage → State → Type 0
+MayDoAt roster own peer at reader_id writer_id submessage old =
     (writer : Endpoint) × (reader : ℕ)
-    × (is : IsToReader config own at reader_id writer_id writer (record { peer = peer; number = reader }))
-    × (may_do (is_reliable_reader is.to.end) (old.known.tracked writer reader) submessage ≡ true)
+    × IsToReader roster own at reader_id writer_id writer (record { peer = peer; number = reader })
+    × (may_do (roster.is_reliable (record { peer = peer; number = reader })) (old.known.tracked writer reader) submessage ≡ true)
 
 -- the submessage may need memory: it may do something at a reader of the peer, or is an ACKNACK that a writer there takes
-abbrev pub MayNeedMemory : Config → GuidPrefix → ℕ → Receiver → Submessage → State → Type 0
-MayNeedMemory config own peer at (AckNack a) old =
+abbrev pub MayNeedMemory : Roster → GuidPrefix → ℕ → Receiver → Submessage → State → Type 0
+MayNeedMemory roster own peer at (AckNack a) old =
     (writer : ℕ) × (reader : Endpoint)
-    × IsToWriter config own at a.reader_id a.writer_id (record { peer = peer; number = writer }) reader
-    × ((is_taken_up old writer reader a ≡ true) ⊎ IsStranger config own peer at a writer reader old)
-MayNeedMemory config own peer at (Data d) old = MayDoAt config own peer at d.reader_id d.writer_id (Data d) old
-MayNeedMemory config own peer at (Gap g) old = MayDoAt config own peer at g.reader_id g.writer_id (Gap g) old
-MayNeedMemory config own peer at (Heartbeat h) old =
-    MayDoAt config own peer at h.reader_id h.writer_id (Heartbeat h) old
-MayNeedMemory config own peer at submessage old = ⊥
+    × IsToWriter roster own at a.reader_id a.writer_id (record { peer = peer; number = writer }) reader
+    × ((is_taken_up old writer reader a ≡ true) ⊎ IsStranger roster own peer at a writer reader old)
+MayNeedMemory roster own peer at (Data d) old = MayDoAt roster own peer at d.reader_id d.writer_id (Data d) old
+MayNeedMemory roster own peer at (Gap g) old = MayDoAt roster own peer at g.reader_id g.writer_id (Gap g) old
+MayNeedMemory roster own peer at (Heartbeat h) old =
+    MayDoAt roster own peer at h.reader_id h.writer_id (Heartbeat h) old
+MayNeedMemory roster own peer at submessage old = ⊥
 
 -- The submessages from this index on are taken up in turn. Either one that may need memory finds none, and nothing is
 -- done from it on, or it is taken up, and those that follow are.
-abbrev pub FollowsMessage : Config → GuidPrefix → ℕ → ℕ → Receiver → List Submessage → State → List Move → Option ℕ
+abbrev pub FollowsMessage : Roster → GuidPrefix → ℕ → ℕ → Receiver → List Submessage → State → List Move → Option ℕ
     → List Due → State → Type 0
-FollowsMessage config own peer index at [] old moves refused dues new = (refused ≡ None) × Idles old moves dues new
-FollowsMessage config own peer index at (submessage ∷ rest) old moves refused dues new =
-    ((refused ≡ Some index) × Idles old moves dues new × MayNeedMemory config own peer at submessage old)
+FollowsMessage roster own peer index at [] old moves refused dues new = (refused ≡ None) × Idles old moves dues new
+FollowsMessage roster own peer index at (submessage ∷ rest) old moves refused dues new =
+    ((refused ≡ Some index) × Idles old moves dues new × MayNeedMemory roster own peer at submessage old)
     ⊎ ((made later : List Move) × (first last : List Due) × (mid : State) × (moves ≡ made ++ later)
     × (dues ≡ first ++ last)
-    × Takes config own peer at submessage old made first mid
-    × FollowsMessage config own peer (index + 1) (after_submessage own at submessage) rest mid later refused last new)
+    × Takes roster own peer at submessage old made first mid
+    × FollowsMessage roster own peer (index + 1) (after_submessage own at submessage) rest mid later refused last new)
 
 -- the bytes are a message, whose submessages are taken up
-pub record TakesMessage (config : Config) (peer : ℕ) (bytes : List ℕ) (old : State) (report : Report) (dues : List Due)
+pub record TakesMessage (roster : Roster) (peer : ℕ) (bytes : List ℕ) (old : State) (report : Report) (dues : List Due)
     (new : State) : Type 0 where
   pub message : Message
   pub offset : ℕ
   pub is_read : ReadsMessage bytes message offset
-  pub follows : FollowsMessage config (prefix_of config peer) peer 0
+  pub follows : FollowsMessage roster (roster.prefix peer) peer 0
       (receiver_of message.prefix) message.submessages old report.moves report.refused dues new
 
 -- what the peer of this number does with a packet: else the bytes are no message, or one for whose reading there was no
 -- memory
-abbrev pub TakesPacket : Config → ℕ → List ℕ → State → Report → List Due → State → Type 0
-TakesPacket config peer bytes old report dues new =
-    TakesMessage config peer bytes old report dues new
+abbrev pub TakesPacket : Roster → ℕ → List ℕ → State → Report → List Due → State → Type 0
+TakesPacket roster peer bytes old report dues new =
+    TakesMessage roster peer bytes old report dues new
     ⊎ (IsNotTaken bytes old.part report new.part × (new.known ≡ old.known) × (dues ≡ []))

@@ -3,10 +3,9 @@
 -- (RTPS 2.5, 8.3.4, the rules of the message receiver).
 use Rattle.std.specs.Prelude.{◌≡◌, ◌⊎◌, ℕ, ◌+◌, ◌<◌, ◌≤◌, false, List, [], ◌∷◌, ◌++◌, Option, Some, None}
 use Rattle.dds_base.specs.declared.change.Change.{Change}
-use Rattle.dds_base.specs.declared.config.Config.{Config}
+use Rattle.dds_protocol.specs.Roster.{Roster}
 use Rattle.dds_base.specs.declared.guid.GuidPrefix.{GuidPrefix}
 use Rattle.dds_base.specs.Bounds.{max_sn}
-use Rattle.dds_base.specs.Checked.{unknown_prefix}
 use Rattle.dds_base.specs.Places.{coming}
 use Rattle.dds_base.specs.Presence.{has_room}
 use Rattle.rtps_wire.specs.declared.message.Message.{Message}
@@ -16,15 +15,9 @@ use Rattle.dds_base.specs.declared.endpoint.Endpoint.{Endpoint}
 use Rattle.dds_machine.specs.declared.reply.Move.{Move}
 use Rattle.dds_machine.specs.declared.reply.Move.TheVariants.{Place}
 use Rattle.dds_machine.specs.declared.reply.Report.{Report}
-use Rattle.dds_machine.specs.Numbered.{numbered}
 use Rattle.dds_machine.specs.Part.{Part, own_reader}
 use Rattle.dds_machine.specs.Moves.{Grounds, match_of, IsMatchedAt, position_at, AreMoves}
 use Rattle.dds_protocol.specs.Claims.{Receiver, receiver_of, after_submessage, ChangeIs, Concerns, Says}
-
--- the prefix of the peer of this number
-abbrev pub prefix_of : Config → ℕ → GuidPrefix
-prefix_of config peer = (numbered config.peers peer
-    (record { prefix = unknown_prefix; writers = []; readers = [] })).prefix
 
 -- one of the moves takes the reader's place in the writer's list beyond this number
 abbrev pub GoesOver : Endpoint → ℕ → ℕ → List Move → Type 0
@@ -42,31 +35,31 @@ pub record HasNoRoom (grounds : Grounds) (part : Part) (writer : Endpoint) (read
 
 -- A submessage with the change at the place of one of the peer's readers moves that place, unless there is no room. No
 -- number of a message is above 2^62.
-abbrev pub MovesOver : Config → Grounds → ℕ → GuidPrefix → Receiver → Submessage → Part → List Move → Type 0
-MovesOver config grounds peer own at submessage part moves =
+abbrev pub MovesOver : Roster → Grounds → ℕ → GuidPrefix → Receiver → Submessage → Part → List Move → Type 0
+MovesOver roster grounds peer own at submessage part moves =
     (writer reader : Endpoint) (publication number : ℕ) (change : Change)
-    → Says config own at submessage (ChangeIs writer reader number change) → reader.peer ≡ peer
+    → Says roster own at submessage (ChangeIs writer reader number change) → reader.peer ≡ peer
     → IsMatchedAt part writer reader.number publication number → 1 ≤ number → number ≤ max_sn
     → GoesOver writer reader.number number moves ⊎ HasNoRoom grounds part writer reader.number publication number
 
 -- The submessages from this index on are taken up in turn. Either one that concerns the peer finds no memory, and
 -- nothing is done from it on, or it makes its moves, and those that follow make theirs.
-abbrev pub TakesUp : Config → (ℕ → Grounds) → ℕ → GuidPrefix → ℕ → Receiver → List Submessage → Part → List Move
+abbrev pub TakesUp : Roster → (ℕ → Grounds) → ℕ → GuidPrefix → ℕ → Receiver → List Submessage → Part → List Move
     → Option ℕ → Part → Type 0
-TakesUp config grounds peer own index at [] old moves refused new = (moves ≡ []) × (refused ≡ None) × (new ≡ old)
-TakesUp config grounds peer own index at (submessage ∷ rest) old moves refused new =
-    ((moves ≡ []) × (refused ≡ Some index) × (new ≡ old) × Concerns config own peer at submessage)
+TakesUp roster grounds peer own index at [] old moves refused new = (moves ≡ []) × (refused ≡ None) × (new ≡ old)
+TakesUp roster grounds peer own index at (submessage ∷ rest) old moves refused new =
+    ((moves ≡ []) × (refused ≡ Some index) × (new ≡ old) × Concerns roster own peer at submessage)
     ⊎ ((made later : List Move) × (mid : Part) × (moves ≡ made ++ later) × AreMoves (grounds index) old made mid
-    × MovesOver config (grounds index) peer own at submessage old made
-    × TakesUp config grounds peer own (index + 1) (after_submessage own at submessage) rest mid later refused new)
+    × MovesOver roster (grounds index) peer own at submessage old made
+    × TakesUp roster grounds peer own (index + 1) (after_submessage own at submessage) rest mid later refused new)
 
 -- the bytes are a message, whose submessages are taken up
-pub record IsTaken (config : Config) (grounds : ℕ → Grounds) (peer : ℕ) (bytes : List ℕ) (old : Part) (report : Report)
+pub record IsTaken (roster : Roster) (grounds : ℕ → Grounds) (peer : ℕ) (bytes : List ℕ) (old : Part) (report : Report)
     (new : Part) : Type 0 where
   pub message : Message
   pub offset : ℕ
   pub is_read : ReadsMessage bytes message offset
-  pub taken : TakesUp config grounds peer (prefix_of config peer) 0
+  pub taken : TakesUp roster grounds peer (roster.prefix peer) 0
       (receiver_of message.prefix) message.submessages old report.moves report.refused new
 
 -- the bytes are no message: nothing is done
@@ -77,6 +70,6 @@ pub record IsNotTaken (bytes : List ℕ) (old : Part) (report : Report) (new : P
   pub after : new ≡ old
 
 -- what the peer of this number does with a packet
-abbrev pub Receives : Config → (ℕ → Grounds) → ℕ → List ℕ → Part → Report → Part → Type 0
-Receives config grounds peer bytes old report new =
-    IsTaken config grounds peer bytes old report new ⊎ IsNotTaken bytes old report new
+abbrev pub Receives : Roster → (ℕ → Grounds) → ℕ → List ℕ → Part → Report → Part → Type 0
+Receives roster grounds peer bytes old report new =
+    IsTaken roster grounds peer bytes old report new ⊎ IsNotTaken bytes old report new

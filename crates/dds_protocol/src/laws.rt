@@ -17,17 +17,20 @@ ghost use Rattle.dds_protocol.specs.InOrder.{ChangesComeInOrder};
 ghost use Rattle.dds_protocol.specs.Laws.{AnswersAreTrue, AnswersCanBeWritten, AssertionsAreTrue, AssertionsCanBeWritten, Composes, ComposesRuns, HeartbeatsAreTrue, HeartbeatsCanBeWritten, KeepAllIsKept, OpensBacked, OpensSound, OwnersExist, ReadersTellWritersApart, ResumesRestOnClaims, RulesRestOnClaims};
 ghost use Rattle.dds_protocol.specs.Protocol.{answers_per};
 ghost use Rattle.dds_protocol.specs.Repair.{AnswersAreFew, AsksAreSent, BeatsAreSent, PairCatchesUp, packets_for};
-ghost use Rattle.dds_protocol.specs.Roster.{ConfigsAreRosters};
+ghost use Rattle.dds_protocol.specs.Roster.{ConfigsAreGood, GoodAreRosters};
 ghost use Rattle.dds_protocol.specs.Tellings.{RunsOweNoMore, StepsOweNoMore};
 ghost use Rattle.dds_protocol.specs.declared.event.Packet.{Packet};
 
 use crate::event::{Event, Output};
 use dds_base::laws::owner_is_found;
 
-/// The peers of a configuration that is not refused are a roster, by which the other laws go: the peers of an opening
-/// first, and behind them whoever comes.
+/// The other laws go by a roster. That of a configuration that is not refused is one, and so is that of the peers of an
+/// opening and, behind them, whoever comes.
 pub fn configurations_are_rosters()
-    ensures roster { ConfigsAreRosters }
+    // Each peer of a configuration that is not refused is good by itself, and told apart from the others.
+    ensures good { ConfigsAreGood }
+    // By such peers, however many there are, there is a roster.
+    ensures roster { GoodAreRosters }
 {}
 
 /// All that packets claim is true at the opening of every configuration.

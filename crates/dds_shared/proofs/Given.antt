@@ -14,6 +14,7 @@ use Rattle.dds_protocol.specs.declared.event.Event.{Event}
 use Rattle.dds_protocol.specs.declared.event.Output.{Output}
 use Rattle.dds_protocol.specs.Noticing.{peer_at_end}
 use Rattle.dds_protocol.specs.Peer.{Peer}
+use Rattle.dds_protocol.specs.Roster.{Roster}
 use Rattle.dds_protocol.proofs.FiltersKept.{keeps_listeners}
 use Rattle.dds_core.specs.Listening.{CoreKept, StandsFor, Steps}
 use Rattle.dds_core.specs.Ruling.{IsSound}
@@ -168,19 +169,19 @@ module _ {L : Type 0} (notices : L → List Notice) (capacity : L → ℕ) (beco
       (row_shown given.readers kept.readers places.readers stands.readers (λ n. next_at given.readers kept.readers places.readers n (stands.each (entity.Reader (suc n)))))
 
 module _ {F L : Type 0} (notices : L → List Notice) (capacity : L → ℕ) (becomes : L → Notice → L → Type 0)
-    (given : ByEntity L) (config : Config) where
+    (given : ByEntity L) (roster : Roster) where
   -- an event leaves at each entity the statuses that its listener is told of, and its room
   pub keeps_slots : (tests : Tests) (peer : Peer) (old new : CoreKept F L) (event : Event) (o : Output)
-      → StandsFor notices capacity becomes given old config peer → IsSound config peer
+      → StandsFor notices capacity becomes given old roster peer → IsSound roster peer
       → Steps notices capacity becomes tests old event o new
       → slots_shown capacity new.listeners ≡ slots_shown capacity old.listeners
   keeps_slots tests peer old new event o stands sound steps =
-      let r = steps.step given config peer stands sound in
+      let r = steps.step given roster peer stands sound in
       let stepped : Peer = r.0 in
       let after : Peer = peer_at_end peer stepped in
       let same : emptied after.part.dds.listeners ≡ emptied peer.part.dds.listeners =
       end_places peer.part stepped.part
-      ∙ ap (λ (p : Places). emptied p) (keeps_listeners config tests peer event o stepped r.1) in
+      ∙ ap (λ (p : Places). emptied p) (keeps_listeners roster tests peer event o stepped r.1) in
       all_shown notices capacity becomes given new.listeners after.part.dds.listeners r.3.listeners
       ∙ sym (all_emptied after.part.dds.listeners)
       ∙ ap (λ (p : Places). places_shown p) same

@@ -10,27 +10,28 @@ use Rattle.dds_notices.specs.Listeners.{ByEntity}
 use Rattle.dds_protocol.specs.Opening.{opening_peers, opening_world}
 use Rattle.dds_protocol.specs.Peer.{Peer, no_peer}
 use Rattle.dds_protocol.specs.World.{peer_at}
+use Rattle.dds_protocol.specs.Roster.{Roster}
 use Rattle.dds_core.specs.Listening.{CoreKept, StandsFor}
 use Rattle.dds_core.specs.Standing.{StandsFor as PeerStandsFor}
 use Rattle.dds_trace.specs.History.{IsHistoryOf}
 use Rattle.dds_trace.specs.Uses.{in_use_of}
 
 module _ {F L : Type 0} (notices : L → List Notice) (capacity : L → ℕ) (becomes : L → Notice → L → Type 0)
-    (given : ByEntity L) (core : CoreKept F L) (config : Config) (peer : Peer) where
-  pub uses_told : (told : ℕ) → StandsFor notices capacity becomes given core config peer
-      → ((config : Config) (peer : Peer) → PeerStandsFor core.filtered.peer config peer
+    (given : ByEntity L) (core : CoreKept F L) (roster : Roster) (peer : Peer) where
+  pub uses_told : (told : ℕ) → StandsFor notices capacity becomes given core roster peer
+      → ((roster : Roster) (peer : Peer) → PeerStandsFor core.filtered.peer roster peer
       → told ≡ uses_in peer.part.dds.watch.wait_sets)
       → told ≡ in_use_of core
   uses_told told stands tells =
-      tells config peer stands.stands.stands
+      tells roster peer stands.stands.stands
       ∙ ap (λ (w : Watched). uses_in w.wait_sets) stands.stands.stands.watch
 
-  pub use_told : (n : ℕ) (told : Bool) → StandsFor notices capacity becomes given core config peer
-      → ((config : Config) (peer : Peer) → PeerStandsFor core.filtered.peer config peer
+  pub use_told : (n : ℕ) (told : Bool) → StandsFor notices capacity becomes given core roster peer
+      → ((roster : Roster) (peer : Peer) → PeerStandsFor core.filtered.peer roster peer
       → told ≡ is_used (at_number peer.part.dds.watch.wait_sets n))
       → told ≡ is_used (at_number core.filtered.peer.watch.wait_sets n)
   use_told n told stands tells =
-      tells config peer stands.stands.stands
+      tells roster peer stands.stands.stands
       ∙ ap (λ (w : Watched). is_used (at_number w.wait_sets n)) stands.stands.stands.watch
 
 nobody_waits : (peers : List PeerConfig) (n : ℕ) (ps : List PeerConfig) (i : ℕ)

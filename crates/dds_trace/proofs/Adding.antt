@@ -12,6 +12,7 @@ use Rattle.dds_protocol.specs.Filters.{peer_with_filter}
 use Rattle.dds_base.specs.declared.entity.Entity.{Entity}
 use Rattle.dds_notices.specs.declared.mask.StatusMask.{StatusMask}
 use Rattle.dds_protocol.specs.Peer.{Peer}
+use Rattle.dds_protocol.specs.Roster.{Roster, roster_of}
 use Rattle.dds_machine.specs.Watching.{Tests}
 use Rattle.dds_protocol.proofs.FiltersKept.{keeps_listeners, opens_no_filters, opens_nobody}
 use Rattle.dds_core.specs.Listening.{Adds, CoreKept, Sets, StandsFor, Steps}
@@ -21,13 +22,13 @@ use Rattle.dds_trace.specs.declared.trace.Entry.{Entry}
 use Rattle.dds_trace.specs.History.{Happens, IsHistory, IsHistoryOf, emptied, entry_of, opened}
 use Rattle.dds_trace.proofs.Places.{end_places, nobody_emptied, set_places}
 
-IsHistory-push : (config : Config) (tests : Tests) (m : Peer) (es : List Entry) (n : Peer) (e : Entry) (k : Peer)
-    → IsHistory config tests m es n → Happens config tests n e.event e.output k
-    → IsHistory config tests m (es ++ e ∷ []) k
-IsHistory-push config tests m [] n e k same step =
-    (k, subst (λ (x : Peer). Happens config tests x e.event e.output k) (sym same) step, refl)
-IsHistory-push config tests m (x ∷ es) n e k h step =
-    (h.0, h.1, IsHistory-push config tests h.0 es n e k h.2 step)
+IsHistory-push : (roster : Roster) (tests : Tests) (m : Peer) (es : List Entry) (n : Peer) (e : Entry) (k : Peer)
+    → IsHistory roster tests m es n → Happens roster tests n e.event e.output k
+    → IsHistory roster tests m (es ++ e ∷ []) k
+IsHistory-push roster tests m [] n e k same step =
+    (k, subst (λ (x : Peer). Happens roster tests x e.event e.output k) (sym same) step, refl)
+IsHistory-push roster tests m (x ∷ es) n e k h step =
+    (h.0, h.1, IsHistory-push roster tests h.0 es n e k h.2 step)
 
 module _ {F L : Type 0} (meaning : F → Key → List ℕ → Bool) (notices : L → List Notice) (capacity : L → ℕ)
     (becomes : L → Notice → L → Type 0) (given : ByEntity L) (config : Config) (number : ℕ) where
@@ -39,19 +40,19 @@ module _ {F L : Type 0} (meaning : F → Key → List ℕ → Bool) (notices : L
   extends es old new seat event o h s =
       let m : Peer = h.peer in
       let tests : Tests = tests_of meaning old.filtered.filters in
-      let r = s.step given config m h.stands h.sound in
+      let r = s.step given (roster_of config) m h.stands h.sound in
       let stepped : Peer = r.0 in
       let n : Peer = peer_at_end m stepped in
-      let happens : Happens config tests m event o n =
+      let happens : Happens (roster_of config) tests m event o n =
       record { stepped = stepped; step = r.1; rules = r.2; ended = refl } in
       let places : emptied m.part.dds.listeners ≡ emptied n.part.dds.listeners =
       sym (end_places m.part stepped.part
-      ∙ ap (λ (p : Places). emptied p) (keeps_listeners config tests m event o stepped r.1)) in
+      ∙ ap (λ (p : Places). emptied p) (keeps_listeners (roster_of config) tests m event o stepped r.1)) in
       let P : List F → Places → Type 0 =
-      λ fs ps. IsHistory config (tests_of meaning fs) (opened config number (length fs) ps)
+      λ fs ps. IsHistory (roster_of config) (tests_of meaning fs) (opened config number (length fs) ps)
       (es ++ entry_of seat event o ∷ []) n in
       let pushed : P old.filtered.filters (emptied m.part.dds.listeners) =
-      IsHistory-push config tests (opened config number (length old.filtered.filters) (emptied m.part.dds.listeners)) es
+      IsHistory-push (roster_of config) tests (opened config number (length old.filtered.filters) (emptied m.part.dds.listeners)) es
       m (entry_of seat event o) n h.history happens in
       record {
         peer = n;
@@ -62,7 +63,7 @@ module _ {F L : Type 0} (meaning : F → Key → List ℕ → Bool) (notices : L
       }
 
   -- a core that was opened has done nothing
-  pub begins : (core : CoreKept F L) → StandsFor notices capacity becomes given core config (opening_peer config number)
+  pub begins : (core : CoreKept F L) → StandsFor notices capacity becomes given core (roster_of config) (opening_peer config number)
       → core.filtered.filters ≡ [] → IsHistoryOf meaning notices capacity becomes given config number [] core
   begins core stands none =
       let p : Peer = opening_peer config number in
@@ -78,7 +79,7 @@ module _ {F L : Type 0} (meaning : F → Key → List ℕ → Bool) (notices : L
             ap (λ (k : ℕ). opened config number k (emptied p.part.dds.listeners)) filters
             ∙ ap (λ (ps : Places). opened config number p.part.dds.watch.filters ps) nobody_told;
         stands = stands;
-        sound = opens_sound config number;
+        sound = opens_sound config (roster_of config) number;
       }
 
   -- a filter that is added before anything happened
@@ -87,7 +88,7 @@ module _ {F L : Type 0} (meaning : F → Key → List ℕ → Bool) (notices : L
       → IsHistoryOf meaning notices capacity becomes given config number [] new
   filtered old new filter k h a =
       let m : Peer = h.peer in
-      let r = a.adds given config m h.stands in
+      let r = a.adds given (roster_of config) m h.stands in
       let more : length new.filtered.filters ≡ length old.filtered.filters + 1 =
       ap (λ (fs : List F). length fs) a.filters ∙ length-append old.filtered.filters (filter ∷ []) in
       record {
@@ -106,7 +107,7 @@ module _ {F L : Type 0} (meaning : F → Key → List ℕ → Bool) (notices : L
       → IsHistoryOf meaning notices capacity becomes (with_entity given e listener) config number [] new
   listened old new e mask listener handed h s =
       let m : Peer = h.peer in
-      let r = s.sets given config m h.stands in
+      let r = s.sets given (roster_of config) m h.stands in
       record {
         peer = peer_with_place m e (listener_place capacity mask listener);
         history =

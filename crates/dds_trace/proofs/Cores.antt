@@ -11,6 +11,7 @@ use Rattle.dds_machine.specs.Numbered.{HasNumber}
 use Rattle.dds_protocol.specs.Opening.{opening_world}
 use Rattle.dds_protocol.specs.Peer.{Peer, no_peer}
 use Rattle.dds_protocol.specs.World.{WorldState, peer_at}
+use Rattle.dds_protocol.specs.Roster.{roster_of}
 use Rattle.dds_core.specs.Listening.{CoreKept}
 use Rattle.dds_core.specs.Opening.{opening_peer}
 use Rattle.dds_trace.specs.Entries.{Traced}
@@ -127,7 +128,7 @@ module _ {F L : Type 0} (meaning : F → Key → List ℕ → Bool) (notices : L
       let low = within.0 in
       let high = within.1 in (
         (omega (arith, low), omega (arith, high, many)),
-        (b.0.peer, subst (λ (p : Peer). IsHistory config (tests trace.peer) p trace.entries b.0.peer) (sym b.1) b.0.history),
+        (b.0.peer, subst (λ (p : Peer). IsHistory (roster_of config) (tests trace.peer) p trace.entries b.0.peer) (sym b.1) b.0.history),
       ) in
       let r = runs_histories ts order honest config tests start (is_opening config f) apart histories in
       record {

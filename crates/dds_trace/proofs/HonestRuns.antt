@@ -2,7 +2,7 @@
 use Rattle.std.proofs.Common.{◌≡◌, ℕ, zero, suc, ◌+◌, ◌-◌, ◌<◌, ◌≤◌, ◌==◌, Bool, true, false, List, [], ◌∷◌, ◌++◌, Some, Contains, refl, subst, ap, sym, ◌∙◌, inl, ⊎_elim, arith, length, length-append, slice_get, get_or, eq-eqb}
 use Rattle.std.specs.Prelude.{if◌then◌else◌}
 use Rattle.std.proofs.lemmas.Bool.{eqb-true, eqb-false}
-use Rattle.dds_base.specs.declared.config.Config.{Config}
+use Rattle.dds_protocol.specs.Roster.{Roster}
 use Rattle.dds_protocol.specs.declared.event.Event.{Event}
 use Rattle.dds_protocol.specs.declared.event.Event.TheVariants as event
 use Rattle.dds_protocol.specs.declared.event.Packet.{Packet}
@@ -44,9 +44,9 @@ AreOf peers [] = Unit {0}
 AreOf peers (e ∷ es) = (1 ≤ e.peer) × (e.peer ≤ peers) × AreOf peers es
 
 -- the entries of each peer are a history from what it is in the network
-abbrev pub HaveHistories : Config → AllTests → WorldState → List PeerEntry → Type 0
-HaveHistories config tests start es = (peer : ℕ) → HasNumber start.peers peer
-    → (last : Peer) × IsHistory config (tests peer) (peer_at start peer) (entries_at peer es) last
+abbrev pub HaveHistories : Roster → AllTests → WorldState → List PeerEntry → Type 0
+HaveHistories roster tests start es = (peer : ℕ) → HasNumber start.peers peer
+    → (last : Peer) × IsHistory roster (tests peer) (peer_at start peer) (entries_at peer es) last
 
 pub entries_own : (e : PeerEntry) (es : List PeerEntry) (i : ℕ) (b : Bool) → (e.peer == i) ≡ b → b ≡ true
     → entries_at i (e ∷ es) ≡ e.entry ∷ entries_at i es
@@ -73,21 +73,21 @@ number_of sent packet c =
     )
 
 -- the event of the network
-record EventOf (config : Config) (tests : AllTests) (ws : WorldState) (peer : ℕ) (ev : Event) (reply : Reply)
+record EventOf (roster : Roster) (tests : AllTests) (ws : WorldState) (peer : ℕ) (ev : Event) (reply : Reply)
     (new : WorldState) : Type 0 where
   w : WorldEvent
   is : IsEvent ws.sent peer ev w
-  step : WorldStep config tests ws w reply new
+  step : WorldStep roster tests ws w reply new
   at : peer_of w ≡ peer
 
-event_of : (config : Config) (tests : AllTests) (ws : WorldState) (peer : ℕ) (ev : Event) (reply : Reply)
-    (new : WorldState) → PeerSteps config (tests peer) ws peer ev reply new → IsSent ws.sent ev
-    → EventOf config tests ws peer ev reply new
-event_of config tests ws peer (event.Call call) reply new steps sent =
+event_of : (roster : Roster) (tests : AllTests) (ws : WorldState) (peer : ℕ) (ev : Event) (reply : Reply)
+    (new : WorldState) → PeerSteps roster (tests peer) ws peer ev reply new → IsSent ws.sent ev
+    → EventOf roster tests ws peer ev reply new
+event_of roster tests ws peer (event.Call call) reply new steps sent =
     record { w = world.Call peer call; is = refl; step = inl steps; at = refl }
-event_of config tests ws peer (event.Tick now) reply new steps sent =
+event_of roster tests ws peer (event.Tick now) reply new steps sent =
     record { w = world.Tick peer now; is = refl; step = inl steps; at = refl }
-event_of config tests ws peer (event.Deliver bytes) reply new steps sent =
+event_of roster tests ws peer (event.Deliver bytes) reply new steps sent =
     let n = number_of ws.sent sent.0 sent.1 in record {
       w = world.Deliver peer n.0;
       is = (n.0, sent.0, n.1, n.2, sent.2, refl);
@@ -95,11 +95,11 @@ event_of config tests ws peer (event.Deliver bytes) reply new steps sent =
         sent.0,
         n.1,
         n.2,
-        subst (λ (b : List ℕ). PeerSteps config (tests peer) ws peer (event.Deliver b) reply new) (sym sent.2) steps,
+        subst (λ (b : List ℕ). PeerSteps roster (tests peer) ws peer (event.Deliver b) reply new) (sym sent.2) steps,
       );
       at = refl;
     }
-event_of config tests ws peer (event.Resume reader) reply new steps sent =
+event_of roster tests ws peer (event.Resume reader) reply new steps sent =
     record { w = world.Resume peer reader; is = refl; step = inl steps; at = refl }
 
 -- the network once the event of an entry is over
@@ -130,44 +130,44 @@ other_next ws w i stepped packets j at apart =
     second ∙ first
 
 -- the other entries are histories from the next state
-later : (config : Config) (tests : AllTests) (ws : WorldState) (e : PeerEntry) (es : List PeerEntry) (w : WorldEvent)
+later : (roster : Roster) (tests : AllTests) (ws : WorldState) (e : PeerEntry) (es : List PeerEntry) (w : WorldEvent)
     (stepped mid last : Peer) (packets : List Packet) → HasNumber ws.peers e.peer → peer_of w ≡ e.peer
-    → HaveHistories config tests ws (e ∷ es) → mid ≡ peer_at_end (peer_at ws e.peer) stepped
-    → IsHistory config (tests e.peer) mid (entries_at e.peer es) last
+    → HaveHistories roster tests ws (e ∷ es) → mid ≡ peer_at_end (peer_at ws e.peer) stepped
+    → IsHistory roster (tests e.peer) mid (entries_at e.peer es) last
     → (i : ℕ) → HasNumber ws.peers i → (b : Bool) → (e.peer == i) ≡ b
-    → (l : Peer) × IsHistory config (tests i) (peer_at (next_of ws w e.peer stepped packets) i) (entries_at i es) l
-later config tests ws e es w stepped mid last packets within at histories ended run i there true is =
+    → (l : Peer) × IsHistory roster (tests i) (peer_at (next_of ws w e.peer stepped packets) i) (entries_at i es) l
+later roster tests ws e es w stepped mid last packets within at histories ended run i there true is =
     let same : e.peer ≡ i = eqb-true e.peer i is in
     subst (λ (k : ℕ). (l : Peer)
-    × IsHistory config (tests k) (peer_at (next_of ws w e.peer stepped packets) k) (entries_at k es) l) same (
+    × IsHistory roster (tests k) (peer_at (next_of ws w e.peer stepped packets) k) (entries_at k es) l) same (
       last,
-      subst (λ (p : Peer). IsHistory config (tests e.peer) p (entries_at e.peer es) last)
+      subst (λ (p : Peer). IsHistory roster (tests e.peer) p (entries_at e.peer es) last)
           (ended ∙ sym (own_next ws w e.peer stepped packets within at)) run,
     )
-later config tests ws e es w stepped mid last packets within at histories ended run i there false is =
+later roster tests ws e es w stepped mid last packets within at histories ended run i there false is =
     let h = histories i there in (
       h.0,
-      subst (λ (p : Peer). IsHistory config (tests i) p (entries_at i es) h.0)
+      subst (λ (p : Peer). IsHistory roster (tests i) p (entries_at i es) h.0)
           (sym (other_next ws w e.peer stepped packets i at (λ q. eqb-false e.peer i is (sym q))))
-          (subst (λ (xs : List Entry). IsHistory config (tests i) (peer_at ws i) xs h.0) (entries_other e es i is) h.1),
+          (subst (λ (xs : List Entry). IsHistory roster (tests i) (peer_at ws i) xs h.0) (entries_other e es i is) h.1),
     )
 
-pub weaves : (config : Config) (tests : AllTests) (ws : WorldState) (order : List PeerEntry) → Sound config ws
-    → AreOf (length ws.peers) order → AreHonest ws.sent order → HaveHistories config tests ws order
+pub weaves : (roster : Roster) (tests : AllTests) (ws : WorldState) (order : List PeerEntry) → Sound roster ws
+    → AreOf (length ws.peers) order → AreHonest ws.sent order → HaveHistories roster tests ws order
     → IsRun tests ws order
-weaves config tests ws [] sound of honest histories =
+weaves roster tests ws [] sound of honest histories =
     record { events = []; are_events = tt; sent = length ws.sent; last = machine_of ws; run = (refl, refl) }
-weaves config tests ws (e ∷ es) sound of honest histories =
+weaves roster tests ws (e ∷ es) sound of honest histories =
     let within : HasNumber ws.peers e.peer = (of.0, of.1) in
     let h = histories e.peer within in
-    let run : IsHistory config (tests e.peer) (peer_at ws e.peer) (e.entry ∷ entries_at e.peer es) h.0 =
-    subst (λ (xs : List Entry). IsHistory config (tests e.peer) (peer_at ws e.peer) xs h.0)
+    let run : IsHistory roster (tests e.peer) (peer_at ws e.peer) (e.entry ∷ entries_at e.peer es) h.0 =
+    subst (λ (xs : List Entry). IsHistory roster (tests e.peer) (peer_at ws e.peer) xs h.0)
     (entries_own e es e.peer (e.peer == e.peer) refl (eq-eqb e.peer e.peer refl)) h.1 in
-    let happens : Happens config (tests e.peer) (peer_at ws e.peer) e.entry.event e.entry.output run.0 = run.1 in
+    let happens : Happens roster (tests e.peer) (peer_at ws e.peer) e.entry.event e.entry.output run.0 = run.1 in
     let packets : List Packet = e.entry.output.packets in
     let reply : Reply = e.entry.output.reply in
     let after : WorldState = world_after ws e.peer happens.stepped packets in
-    let steps : PeerSteps config (tests e.peer) ws e.peer e.entry.event reply after =
+    let steps : PeerSteps roster (tests e.peer) ws e.peer e.entry.event reply after =
     record {
       within = within;
       output = e.entry.output;
@@ -178,9 +178,9 @@ weaves config tests ws (e ∷ es) sound of honest histories =
       of_packets = λ p c. c;
       changed = refl;
     } in
-    let ev : EventOf config tests ws e.peer e.entry.event reply after =
-    event_of config tests ws e.peer e.entry.event reply after steps honest.0 in
-    let s : Composed config tests ws ev.w reply after = composes config tests ws after ev.w reply sound ev.step in
+    let ev : EventOf roster tests ws e.peer e.entry.event reply after =
+    event_of roster tests ws e.peer e.entry.event reply after steps honest.0 in
+    let s : Composed roster tests ws ev.w reply after = composes roster tests ws after ev.w reply sound ev.step in
     let next : WorldState = world_ended ws ev.w after in
     let ended_count : length next.peers ≡ length after.peers =
     length-with_numbered after.peers (peer_of ev.w)
@@ -189,9 +189,9 @@ weaves config tests ws (e ∷ es) sound of honest histories =
     length-with_numbered ws.peers e.peer happens.stepped in
     let same_length : length next.peers ≡ length ws.peers = omega (arith, ended_count, after_count) in
     let rest : IsRun tests next es =
-    weaves config tests next es (ended_sound config ws ev.w after s.2)
+    weaves roster tests next es (ended_sound roster ws ev.w after s.2)
     (subst (λ (n : ℕ). AreOf n es) (sym same_length) of.2) honest.1
-    (λ i there. later config tests ws e es ev.w happens.stepped run.0 h.0 packets within ev.at histories happens.ended
+    (λ i there. later roster tests ws e es ev.w happens.stepped run.0 h.0 packets within ev.at histories happens.ended
     run.2 i (there.0, (let t = there.1 in omega (arith, t, same_length))) (e.peer == i) refl) in
     record {
       events = ev.w ∷ rest.events;

@@ -15,6 +15,7 @@ use Rattle.dds_protocol.specs.declared.event.Packet.{Packet}
 use Rattle.dds_protocol.specs.Opening.{opening_world}
 use Rattle.dds_protocol.specs.Peer.{Peer, no_peer}
 use Rattle.dds_protocol.specs.World.{Sound, WorldState, peer_at}
+use Rattle.dds_protocol.specs.Roster.{roster_of}
 use Rattle.dds_protocol.proofs.Alike.{AlikeParts, alike_by, parts_same}
 use Rattle.dds_protocol.proofs.Opened.{opens_sound}
 use Rattle.dds_protocol.proofs.SameBeside.{sound_beside}
@@ -173,7 +174,7 @@ module _ (ts : List Traced) where
 
   histories : (config : Config) (tests : AllTests) (start : WorldState) → AreApart ts → AreHistories config tests start ts
       → (order to : List ℕ) (h : Reaches ts (none_placed ts) order to) → AllPlaced ts to
-      → HaveHistories config tests start (woven (none_placed ts) order to h)
+      → HaveHistories (roster_of config) tests start (woven (none_placed ts) order to h)
   histories config tests start apart given order to h all peer within =
       let es : List PeerEntry = woven (none_placed ts) order to h in
       let fits : length ts ≤ length (none_placed ts) = omega (arith, length-replicate {A = ℕ} (length ts) 0) in
@@ -183,14 +184,14 @@ module _ (ts : List Traced) where
             let all_of : entries_at f.1.peer es ≡ f.1.entries =
             own apart f.0 f.1 f.2 (none_placed ts) order to h all fits
             ∙ ap (λ (k : ℕ). drop k f.1.entries) (zeros (length ts) f.0) in
-            subst (λ (i : ℕ). (last : Peer) × IsHistory config (tests i) (peer_at start i) (entries_at i es) last) f.3 (
+            subst (λ (i : ℕ). (last : Peer) × IsHistory (roster_of config) (tests i) (peer_at start i) (entries_at i es) last) f.3 (
               g.1.0,
-              subst (λ (xs : List Entry). IsHistory config (tests f.1.peer) (peer_at start f.1.peer) xs g.1.0)
+              subst (λ (xs : List Entry). IsHistory (roster_of config) (tests f.1.peer) (peer_at start f.1.peer) xs g.1.0)
                   (sym all_of) g.1.1,
             )
         | inr none ↦ (
           peer_at start peer,
-          subst (λ (xs : List Entry). IsHistory config (tests peer) (peer_at start peer) xs (peer_at start peer))
+          subst (λ (xs : List Entry). IsHistory (roster_of config) (tests peer) (peer_at start peer) xs (peer_at start peer))
               (sym (none_of peer none (none_placed ts) order to h)) refl,
         )
       ]
@@ -232,9 +233,9 @@ opens_peer config start o (suc i) =
           (same_peer (peer_at (opening_world config) (suc i)))
     ]
 
-pub opening_sound : (config : Config) (start : WorldState) → IsOpening config start → Sound config start
+pub opening_sound : (config : Config) (start : WorldState) → IsOpening config start → Sound (roster_of config) start
 opening_sound config start o =
-    sound_beside config (opening_world config) start (record {
+    sound_beside (roster_of config) (opening_world config) start (record {
       count = o.count;
       number = λ p. (opens_peer config start o p).number;
       parts = λ p. (opens_peer config start o p).parts;
@@ -258,6 +259,6 @@ runs_histories ts order whole config tests start opens apart given =
     (λ q s. absurd (let lt = s.3.2 in omega (arith, lt, zeros (length ts) s.0))) in (
       es,
       are_woven ts (none_placed ts) order to h,
-      weaves config tests start es (opening_sound config start opens) of sent
+      weaves (roster_of config) tests start es (opening_sound config start opens) of sent
           (histories ts config tests start apart given order to h whole.2),
     )

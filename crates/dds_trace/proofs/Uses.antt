@@ -6,7 +6,7 @@ use Rattle.std.specs.Option.{option_map}
 use Rattle.rtps_wire.specs.declared.submessage.Submessage.{Submessage}
 use Rattle.dds_base.specs.declared.code.Code.{Code}
 use Rattle.dds_base.specs.declared.code.Code.TheVariants as code
-use Rattle.dds_base.specs.declared.config.Config.{Config}
+use Rattle.dds_protocol.specs.Roster.{Roster}
 use Rattle.dds_base.specs.declared.guid.GuidPrefix.{GuidPrefix}
 use Rattle.dds_base.specs.Number.{at_number}
 use Rattle.dds_conditions.specs.declared.condition.Cond.{Cond}
@@ -117,37 +117,37 @@ moves_keep : (g : Grounds) (old : Part) (ms : List Move) (new : Part) → AreMov
 moves_keep g old [] new h = ap (λ (p : Part). p.dds.watch.wait_sets) h
 moves_keep g old (m ∷ ms) new h = moves_keep g h.0 ms new h.2 ∙ move_keeps g old m h.0 h.1
 
-taken_keeps : (config : Config) (grounds : ℕ → Grounds) (peer : ℕ) (own : GuidPrefix) (index : ℕ) (at : Receiver)
+taken_keeps : (roster : Roster) (grounds : ℕ → Grounds) (peer : ℕ) (own : GuidPrefix) (index : ℕ) (at : Receiver)
     (submessages : List Submessage) (old : Part) (moves : List Move) (refused : Option ℕ) (new : Part)
-    → TakesUp config grounds peer own index at submessages old moves refused new → SameSets old new
-taken_keeps config grounds peer own index at [] old moves refused new h =
+    → TakesUp roster grounds peer own index at submessages old moves refused new → SameSets old new
+taken_keeps roster grounds peer own index at [] old moves refused new h =
     ap (λ (p : Part). p.dds.watch.wait_sets) h.2
-taken_keeps config grounds peer own index at (s ∷ rest) old moves refused new (inl h) =
+taken_keeps roster grounds peer own index at (s ∷ rest) old moves refused new (inl h) =
     ap (λ (p : Part). p.dds.watch.wait_sets) h.2
-taken_keeps config grounds peer own index at (s ∷ rest) old moves refused new (inr h) =
-    taken_keeps config grounds peer own (index + 1) (after_submessage own at s) rest h.2 h.1 refused new h.6
+taken_keeps roster grounds peer own index at (s ∷ rest) old moves refused new (inr h) =
+    taken_keeps roster grounds peer own (index + 1) (after_submessage own at s) rest h.2 h.1 refused new h.6
     ∙ moves_keep (grounds index) old h.0 h.2 h.4
 
-event_uses : (config : Config) (tests : Tests) (old : Peer) (ev : Event) (reply : Reply) (new : Peer)
-    → EventStep config tests old ev reply new → OneMore old.part.dds new.part.dds
-event_uses config tests old (event.Call call) reply new h =
+event_uses : (roster : Roster) (tests : Tests) (old : Peer) (ev : Event) (reply : Reply) (new : Peer)
+    → EventStep roster tests old ev reply new → OneMore old.part.dds new.part.dds
+event_uses roster tests old (event.Call call) reply new h =
     call_uses old.part new.part.dds (changes_of tests old.part call reply new.part.dds h.0.answers)
-event_uses config tests old (event.Tick now) Done new h =
+event_uses roster tests old (event.Tick now) Done new h =
     as_it_was old.part.dds new.part.dds (ap (λ (p : Part). p.dds.watch.wait_sets) h.0.1)
-event_uses config tests old (event.Tick now) (Refused code) new h =
+event_uses roster tests old (event.Tick now) (Refused code) new h =
     as_it_was old.part.dds new.part.dds (ap (λ (p : Part). p.dds.watch.wait_sets) h.0.1)
-event_uses config tests old (event.Tick now) reply new h = absurd h.0
-event_uses config tests old (event.Deliver packet) (Reported report) new (inl t, delivered) =
+event_uses roster tests old (event.Tick now) reply new h = absurd h.0
+event_uses roster tests old (event.Deliver packet) (Reported report) new (inl t, delivered) =
     as_it_was old.part.dds new.part.dds
-    (taken_keeps config _ old.number _ 0 _ t.message.submessages old.part report.moves report.refused new.part t.taken)
-event_uses config tests old (event.Deliver packet) (Reported report) new (inr t, delivered) =
+    (taken_keeps roster _ old.number _ 0 _ t.message.submessages old.part report.moves report.refused new.part t.taken)
+event_uses roster tests old (event.Deliver packet) (Reported report) new (inr t, delivered) =
     as_it_was old.part.dds new.part.dds (ap (λ (p : Part). p.dds.watch.wait_sets) t.after)
-event_uses config tests old (event.Deliver packet) reply new h = absurd h
-event_uses config tests old (event.Resume reader) (Reported report) new h =
+event_uses roster tests old (event.Deliver packet) reply new h = absurd h
+event_uses roster tests old (event.Resume reader) (Reported report) new h =
     as_it_was old.part.dds new.part.dds (moves_keep _ old.part report.moves new.part h.0.2)
-event_uses config tests old (event.Resume reader) (Refused code) new h =
+event_uses roster tests old (event.Resume reader) (Refused code) new h =
     as_it_was old.part.dds new.part.dds (ap (λ (p : Part). p.dds.watch.wait_sets) h.0.2)
-event_uses config tests old (event.Resume reader) reply new h = absurd h.0
+event_uses roster tests old (event.Resume reader) reply new h = absurd h.0
 
 -- ---- the end of a wait
 
@@ -298,14 +298,14 @@ look_unused (c ∷ cs) timed_out old n reply new (inr a) over found = absurd (fo
 module _ {F L : Type 0} (notices : L → List Notice) (capacity : L → ℕ)
     (becomes : L → Notice → L → Type 0) (given : ByEntity L) where
   -- an event adds at most one wait
-  pub one_more : (tests : Tests) (config : Config) (peer : Peer) (old new : CoreKept F L) (ev : Event) (o : Output)
-      → StandsFor notices capacity becomes given old config peer → IsSound config peer
+  pub one_more : (tests : Tests) (roster : Roster) (peer : Peer) (old new : CoreKept F L) (ev : Event) (o : Output)
+      → StandsFor notices capacity becomes given old roster peer → IsSound roster peer
       → Steps notices capacity becomes tests old ev o new → in_use_of new ≤ in_use_of old + 1
-  one_more tests config peer old new ev o stands sound h =
-      let r = h.step given config peer stands sound in
+  one_more tests roster peer old new ev o stands sound h =
+      let r = h.step given roster peer stands sound in
       let stepped : Peer = r.0 in
       let step : OneMore peer.part.dds stepped.part.dds =
-      event_uses config tests peer ev o.reply stepped r.1.step in
+      event_uses roster tests peer ev o.reply stepped r.1.step in
       let earlier = uses_are peer.part.dds.watch.wait_sets in
       let later = uses_are stepped.part.dds.watch.wait_sets in
       let before = ap (λ (w : Watched). uses_in w.wait_sets) stands.stands.stands.watch in
@@ -314,12 +314,12 @@ module _ {F L : Type 0} (notices : L → List Notice) (capacity : L → ℕ)
       omega (arith, step, before, after, ended, earlier, later)
 
   -- the end of a wait ends that one
-  pub ends_one : (tests : Tests) (config : Config) (peer : Peer) (old new : CoreKept F L) (s : ℕ) (o : Output)
-      → StandsFor notices capacity becomes given old config peer → IsSound config peer → IsInUse old s
+  pub ends_one : (tests : Tests) (roster : Roster) (peer : Peer) (old new : CoreKept F L) (s : ℕ) (o : Output)
+      → StandsFor notices capacity becomes given old roster peer → IsSound roster peer → IsInUse old s
       → Steps notices capacity becomes tests old (event.Call (WaitEnd s)) o new
       → (in_use_of new + 1 ≡ in_use_of old) × (IsInUse new s → ⊥)
-  ends_one tests config peer old new s o stands sound used h =
-      let r = h.step given config peer stands sound in
+  ends_one tests roster peer old new s o stands sound used h =
+      let r = h.step given roster peer stands sound in
       let stepped : Peer = r.0 in
       let before : peer.part.dds.watch ≡ old.filtered.peer.watch = stands.stands.stands.watch in
       let after : (peer_at_end peer stepped).part.dds.watch ≡ new.filtered.peer.watch = r.3.stands.stands.watch in
@@ -338,12 +338,12 @@ module _ {F L : Type 0} (notices : L → List Notice) (capacity : L → ℕ)
       )
 
   -- a look that answers ends the wait, if there was one
-  pub look_ends : (tests : Tests) (config : Config) (peer : Peer) (old new : CoreKept F L) (s : ℕ) (o : Output)
-      → StandsFor notices capacity becomes given old config peer → IsSound config peer
+  pub look_ends : (tests : Tests) (roster : Roster) (peer : Peer) (old new : CoreKept F L) (s : ℕ) (o : Output)
+      → StandsFor notices capacity becomes given old roster peer → IsSound roster peer
       → Steps notices capacity becomes tests old (event.Call (WaitLook s)) o new
       → (o.reply ≡ WaitsOn → ⊥) → (o.reply ≡ Refused code.Memory → ⊥) → IsInUse new s → ⊥
-  look_ends tests config peer old new s o stands sound h over found still =
-      let r = h.step given config peer stands sound in
+  look_ends tests roster peer old new s o stands sound h over found still =
+      let r = h.step given roster peer stands sound in
       let stepped : Peer = r.0 in
       let after : (peer_at_end peer stepped).part.dds.watch ≡ new.filtered.peer.watch = r.3.stands.stands.watch in
       let ended : (peer_at_end peer stepped).part.dds.watch ≡ stepped.part.dds.watch =

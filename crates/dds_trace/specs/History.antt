@@ -11,6 +11,7 @@ use Rattle.dds_protocol.specs.declared.event.Event.{Event}
 use Rattle.dds_protocol.specs.declared.event.Output.{Output}
 use Rattle.dds_protocol.specs.Noticing.{peer_at_end}
 use Rattle.dds_protocol.specs.Peer.{Peer, PeerStep}
+use Rattle.dds_protocol.specs.Roster.{Roster, roster_of}
 use Rattle.dds_machine.specs.Watching.{Tests}
 use Rattle.dds_core.specs.Listening.{CoreKept, StandsFor}
 use Rattle.dds_core.specs.Opening.{opening_peer}
@@ -19,18 +20,18 @@ use Rattle.dds_trace.specs.declared.trace.Entry.{Entry}
 
 -- one event of a peer to its end, at which listeners are told; it follows the rules of the protocol, which say what is
 -- sent
-pub record Happens (config : Config) (tests : Tests) (old : Peer) (event : Event) (output : Output)
+pub record Happens (roster : Roster) (tests : Tests) (old : Peer) (event : Event) (output : Output)
     (new : Peer) : Type 0 where
   pub stepped : Peer
-  pub step : PeerStep config tests old event output stepped
-  pub rules : KeepsRules config old event output stepped
+  pub step : PeerStep roster tests old event output stepped
+  pub rules : KeepsRules roster old event output stepped
   pub ended : new ≡ peer_at_end old stepped
 
 -- events with these outputs lead from the one state to the other
-abbrev pub IsHistory : Config → Tests → Peer → List Entry → Peer → Type 0
-IsHistory config tests old [] new = old ≡ new
-IsHistory config tests old (e ∷ es) new =
-    (mid : Peer) × Happens config tests old e.event e.output mid × IsHistory config tests mid es new
+abbrev pub IsHistory : Roster → Tests → Peer → List Entry → Peer → Type 0
+IsHistory roster tests old [] new = old ≡ new
+IsHistory roster tests old (e ∷ es) new =
+    (mid : Peer) × Happens roster tests old e.event e.output mid × IsHistory roster tests mid es new
 
 -- a place at which nothing was told yet
 abbrev pub emptied_place : Option Place → Option Place
@@ -61,10 +62,10 @@ opened config number filters places = record (opening_peer config number) {
 pub record IsHistoryOf {F L : Type 0} (meaning : F → Key → List ℕ → Bool) (notices : L → List Notice)
     (capacity : L → ℕ) (becomes : L → Notice → L → Type 0) (given : ByEntity L) (config : Config) (number : ℕ) (entries : List Entry) (core : CoreKept F L) : Type 0 where
   pub peer : Peer
-  pub history : IsHistory config (tests_of meaning core.filtered.filters)
+  pub history : IsHistory (roster_of config) (tests_of meaning core.filtered.filters)
       (opened config number (length core.filtered.filters) (emptied peer.part.dds.listeners)) entries peer
-  pub stands : StandsFor notices capacity becomes given core config peer
-  pub sound : IsSound config peer
+  pub stands : StandsFor notices capacity becomes given core (roster_of config) peer
+  pub sound : IsSound (roster_of config) peer
 
 -- an entry of these parts
 abbrev pub entry_of : ℕ → Event → Output → Entry

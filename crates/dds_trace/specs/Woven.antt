@@ -20,6 +20,7 @@ use Rattle.dds_protocol.specs.declared.event.Packet.{Packet}
 use Rattle.dds_protocol.specs.Opening.{opening_world}
 use Rattle.dds_protocol.specs.Peer.{Peer}
 use Rattle.dds_protocol.specs.World.{WorldState, machine_of, peer_at}
+use Rattle.dds_protocol.specs.Roster.{roster_of}
 use Rattle.dds_trace.specs.declared.trace.Entry.{Entry}
 use Rattle.dds_trace.specs.Entries.{Traced}
 use Rattle.dds_trace.specs.History.{IsHistory, IsHistoryOf, emptied, opened}
@@ -84,7 +85,7 @@ abbrev pub AreHistories : Config → AllTests → WorldState → List Traced →
 AreHistories config tests start ts =
     (t : ℕ) (trace : Traced) → slice_get ts t ≡ Some trace
     → HasNumber start.peers trace.peer
-    × ((last : Peer) × IsHistory config (tests trace.peer) (peer_at start trace.peer) trace.entries last)
+    × ((last : Peer) × IsHistory (roster_of config) (tests trace.peer) (peer_at start trace.peer) trace.entries last)
 
 -- For each configuration, each meaning of the filters and each opening from which the traces are histories of different
 -- peers: the order of their entries is a run of the machine from there.
@@ -108,7 +109,7 @@ module _ {F L : Type 0} (meaning : F → Key → List ℕ → Bool) (notices : L
   -- the peer begins with the filters of its core, and with the places of the listeners that it has at the end, to which
   -- nothing was told yet
   abbrev pub BeginsAs : WorldState → ℕ → Type 0
-  BeginsAs start number = (last : Peer) × StandsFor notices capacity becomes (given number) (cores number) config last
+  BeginsAs start number = (last : Peer) × StandsFor notices capacity becomes (given number) (cores number) (roster_of config) last
       × (peer_at start number
       ≡ opened config number (length (cores number).filtered.filters) (emptied last.part.dds.listeners))
 

@@ -3,7 +3,7 @@ use Rattle.std.proofs.Common.{◌≡◌, ◌⊎◌, ℕ, ℤ, ◌+◌, ◌-◌, 
 use Rattle.std.specs.Prelude.{IsSome, if◌then◌else◌, nat_le}
 use Rattle.std.proofs.lemmas.Bool.{cases_lt}
 use Rattle.std.proofs.lemmas.Bool.Decides.{nat_tests}
-use Rattle.dds_base.specs.declared.config.Config.{Config}
+use Rattle.dds_protocol.specs.Roster.{Roster}
 use Rattle.dds_base.specs.declared.guid.EntityId.{EntityId}
 use Rattle.dds_base.specs.Kept.{numbers_from}
 use Rattle.std.specs.Option.{option_map_or, unwrap_or}
@@ -68,22 +68,22 @@ record Delivered {hearing : Hearing} (tests : AllTests) (Is : Packet → Type 0)
 
 -- in a stage whose replies are whole, and in which nothing was lost, there is no such packet, or it is delivered so
 stage_delivers : {hearing : Hearing} → {tests : AllTests}
-    → (config : Config) (network : WorldState) (Is : Packet → Type 0) (from peer unsent : ℕ)
+    → (roster : Roster) (network : WorldState) (Is : Packet → Type 0) (from peer unsent : ℕ)
     (Next : WorldKept hearing → List WorldEvent → List RoundReply → WorldKept hearing → Type 0) (old : WorldKept hearing)
     (events : List WorldEvent) (replies : List RoundReply) (new : WorldKept hearing)
-    (P : List WorldEvent → List RoundReply → WorldKept hearing → Type 0) → StandsFor old config network
+    (P : List WorldEvent → List RoundReply → WorldKept hearing → Type 0) → StandsFor old roster network
     → new.unsent ≤ unsent → unsent ≤ old.unsent → BySteps tests Next new
     → (HasNone Is old.sent from (length old.sent) → P [] [] old)
     → ((d : Delivered tests Is from peer unsent old) (later : List WorldEvent) (rest : List RoundReply)
     → are_whole rest ≡ true → unsent ≤ d.mid.unsent → Next d.mid later rest new
     → P (world.Deliver peer d.k ∷ later) (d.reply ∷ rest) new)
     → Stage tests Is from peer Next old events replies new → are_whole replies ≡ true → P events replies new
-stage_delivers {tests} config network Is from peer unsent Next old events replies new P s same more steps none goes =
+stage_delivers {tests} roster network Is from peer unsent Next old events replies new P s same more steps none goes =
     stage_is Is from peer Next old events replies new (λ es rs n. are_whole rs ≡ true → P es rs n)
     (λ no whole. none no)
     (λ k reply mid later rest first step next whole.
     let w =
-    first_whole config network old (world.Deliver peer k) reply mid later rest new unsent step
+    first_whole roster network old (world.Deliver peer k) reply mid later rest new unsent step
     (steps mid later rest next) s whole same more in
     let d : Delivered tests Is from peer unsent old = record {
       k = k;
@@ -100,18 +100,18 @@ stage_delivers {tests} config network Is from peer unsent Next old events replie
 -- it is a delivery by the rules
 delivered : {hearing : Hearing} → {tests : AllTests} {Is : Packet
     → Type 0} {from peer unsent : ℕ} {old : WorldKept hearing}
-    (d : Delivered tests Is from peer unsent old) {config : Config} {network : WorldState}
-    → StandsFor old config network
-    → (w : Went tests config network old (world.Deliver peer d.k) d.reply.reply d.mid)
-    → Delivers config tests network peer d.first.packet w.step.lost w.after
-delivered {peer = peer} {old = old} d {config} {network} s w =
-    delivers config network old peer d.k d.first.packet d.reply.reply d.mid s d.first.at.1 d.whole w
+    (d : Delivered tests Is from peer unsent old) {roster : Roster} {network : WorldState}
+    → StandsFor old roster network
+    → (w : Went tests roster network old (world.Deliver peer d.k) d.reply.reply d.mid)
+    → Delivers roster tests network peer d.first.packet w.step.lost w.after
+delivered {peer = peer} {old = old} d {roster} {network} s w =
+    delivers roster network old peer d.k d.first.packet d.reply.reply d.mid s d.first.at.1 d.whole w
 
 -- nothing was lost at it
 nothing_lost : {hearing : Hearing} → {tests : AllTests} {Is : Packet
     → Type 0} {from peer unsent : ℕ} {old : WorldKept hearing}
-    (d : Delivered tests Is from peer unsent old) {config : Config} {network : WorldState}
-    (w : Went tests config network old (world.Deliver peer d.k) d.reply.reply d.mid) → old.unsent ≤ unsent
+    (d : Delivered tests Is from peer unsent old) {roster : Roster} {network : WorldState}
+    (w : Went tests roster network old (world.Deliver peer d.k) d.reply.reply d.mid) → old.unsent ≤ unsent
     → unsent < 2 ^ 64 - 1 → w.step.lost ≡ 0
 nothing_lost {old = old} d w most below =
     let same = d.same in
@@ -143,18 +143,18 @@ is_silent network m = ((peer_at network m.writer.peer).known.answered m.writer.n
 -- a tick of the writer's peer, for which memory was found and at which nothing was lost, where the reader has answered
 record Tick (hearing : Hearing) : Type 0 where
   tests : AllTests
-  config : Config
+  roster : Roster
   network : WorldState
   old : WorldKept hearing
   mid : WorldKept hearing
   m : Matched
   place : ℕ
   ticked : RoundReply
-  s : StandsFor old config network
+  s : StandsFor old roster network
   at : place_at (machine_of network) m.reader m.writer ≡ Some place
   attached : is_attached (how_of (own_proxies (part_at (machine_of network) m.reader.peer) m.reader.number) m.writer)
       ≡ true
-  known : Knows config network m
+  known : Knows roster network m
   step : IsStep tests old (world.Tick m.writer.peer m.moment) ticked mid
   whole : is_whole ticked.reply ≡ true
   same : mid.unsent ≤ old.unsent
@@ -162,8 +162,8 @@ record Tick (hearing : Hearing) : Type 0 where
   spoken : is_silent network m ≡ false
 
 w0 : {hearing : Hearing} → (t : Tick hearing)
-    → Went t.tests t.config t.network t.old (world.Tick t.m.writer.peer t.m.moment) t.ticked.reply t.mid
-w0 t = went t.config t.network t.old (world.Tick t.m.writer.peer t.m.moment) t.ticked t.mid t.step t.s
+    → Went t.tests t.roster t.network t.old (world.Tick t.m.writer.peer t.m.moment) t.ticked.reply t.mid
+w0 t = went t.roster t.network t.old (world.Tick t.m.writer.peer t.m.moment) t.ticked t.mid t.step t.s
 
 abbrev after_tick : {hearing : Hearing} → Tick hearing → WorldState
 after_tick t = (w0 t).after
@@ -173,31 +173,31 @@ abbrev noted_tick : {hearing : Hearing} → Tick hearing → WorldState
 noted_tick t = world_ended t.network (world.Tick t.m.writer.peer t.m.moment) (after_tick t)
 
 ruled0 : {hearing : Hearing} → (t : Tick hearing)
-    → RuledStep t.config t.tests t.network (world.Tick t.m.writer.peer t.m.moment) Done 0 (after_tick t)
+    → RuledStep t.roster t.tests t.network (world.Tick t.m.writer.peer t.m.moment) Done 0 (after_tick t)
 ruled0 t =
-    subst (λ (n : ℕ). RuledStep t.config t.tests t.network (world.Tick t.m.writer.peer t.m.moment) Done n
+    subst (λ (n : ℕ). RuledStep t.roster t.tests t.network (world.Tick t.m.writer.peer t.m.moment) Done n
     (after_tick t)) (none_lost t.old.unsent (w0 t).step.lost t.mid.unsent (w0 t).step.counted t.same t.below)
-    (subst (λ (r : Reply). RuledStep t.config t.tests t.network (world.Tick t.m.writer.peer t.m.moment) r
+    (subst (λ (r : Reply). RuledStep t.roster t.tests t.network (world.Tick t.m.writer.peer t.m.moment) r
     (w0 t).step.lost (after_tick t))
-    (whole_tick t.tests t.config t.network t.m.writer.peer t.m.moment t.ticked.reply (after_tick t) t.whole
+    (whole_tick t.tests t.roster t.network t.m.writer.peer t.m.moment t.ticked.reply (after_tick t) t.whole
     (w0 t).step.ruled.step) (w0 t).step.ruled)
 
 sent0 : {hearing : Hearing} → (t : Tick hearing) → t.mid.sent ≡ t.old.sent ++ (ruled0 t).packets
 sent0 t =
-    sent_by t.config t.network t.old (world.Tick t.m.writer.peer t.m.moment) Done 0 (after_tick t) t.mid t.s
+    sent_by t.roster t.network t.old (world.Tick t.m.writer.peer t.m.moment) Done 0 (after_tick t) t.mid t.s
     (w0 t).stands (ruled0 t)
 
 abbrev part : {hearing : Hearing} → Tick hearing → Part
 part t = (peer_at t.network t.m.writer.peer).part
 
 there : {hearing : Hearing} → (t : Tick hearing) → HasNumber t.network.peers t.m.writer.peer
-there t = ticks_there t.config t.tests t.network t.m.writer.peer t.m.moment (after_tick t) (ruled0 t).step
+there t = ticks_there t.roster t.tests t.network t.m.writer.peer t.m.moment (after_tick t) (ruled0 t).step
 
-core : {hearing : Hearing} → (t : Tick hearing) → CoreAt t.config t.network t.m.writer.peer
-core t = core_at t.old t.config t.network t.m.writer.peer t.s (there t)
+core : {hearing : Hearing} → (t : Tick hearing) → CoreAt t.roster t.network t.m.writer.peer
+core t = core_at t.old t.roster t.network t.m.writer.peer t.s (there t)
 
-of : {hearing : Hearing} → (t : Tick hearing) → IsPartOf t.config t.m.writer.peer (part t)
-of t = t.s.used.of_config t.m.writer.peer (there t)
+of : {hearing : Hearing} → (t : Tick hearing) → IsPartOf t.roster t.m.writer.peer (part t)
+of t = t.s.used.of_roster t.m.writer.peer (there t)
 
 acknowledged : {hearing : Hearing} → Tick hearing → ℕ
 acknowledged t =
@@ -222,16 +222,16 @@ own_row t =
 here : {hearing : Hearing} → (t : Tick hearing) → HasNumber (part t).rtps.writers t.m.writer.number
 here t = has_writer (part t) t.m.writer.number t.m.reader (acknowledged t, own_row t)
 
-pair : {hearing : Hearing} → (t : Tick hearing) → PairOf t.config t.m.writer t.m.reader
+pair : {hearing : Hearing} → (t : Tick hearing) → PairOf t.roster t.m.writer t.m.reader
 pair t =
-    subst (λ (n : ℕ). PairOf t.config (record { peer = n; number = t.m.writer.number }) t.m.reader)
+    subst (λ (n : ℕ). PairOf t.roster (record { peer = n; number = t.m.writer.number }) t.m.reader)
     (t.s.sound.number t.m.writer.peer (there t))
-    (pair_kept t.config (peer_at t.network t.m.writer.peer) (core t).core (core t).stands t.m.writer.number t.m.reader
+    (pair_kept t.roster (peer_at t.network t.m.writer.peer) (core t).core (core t).stands t.m.writer.number t.m.reader
     (acknowledged t) (own_row t))
 
 stands : {hearing : Hearing} → (t : Tick hearing) → StandsAt t.network t.m.writer t.m.reader t.place (acknowledged t)
 stands t =
-    let k = place_known t.old t.config t.network t.m.writer t.m.reader t.place t.s t.at in
+    let k = place_known t.old t.roster t.network t.m.writer t.m.reader t.place t.s t.at in
     record {
       here = k.here;
       place_is = t.at;
@@ -244,7 +244,7 @@ stands t =
 few : {hearing : Hearing} → (t : Tick hearing) → the_last t < 2 ^ 62
 few t =
     subst (λ (w : Writer). length (writer_changes w) < 2 ^ 62) (sym (writer_is t.network t.m.writer))
-    (few_changes (core t).core t.config (peer_at t.network t.m.writer.peer) t.m.writer.number (core t).stands (here t))
+    (few_changes (core t).core t.roster (peer_at t.network t.m.writer.peer) t.m.writer.number (core t).stands (here t))
 
 -- ---- what a round ends with
 
@@ -267,18 +267,18 @@ IsExcusedSo network after writer reader place =
     → HasCaughtUp after writer reader place (length (writer_changes (writer_at (machine_of network) writer))))
 
 -- what hindered it is shown without the place after it
-abbrev EndsSo : {hearing : Hearing} → AllTests → Config → WorldState → WorldKept hearing → Matched → ℕ
+abbrev EndsSo : {hearing : Hearing} → AllTests → Roster → WorldState → WorldKept hearing → Matched → ℕ
     → List WorldEvent → List RoundReply → WorldKept hearing
     → Type 0
-EndsSo tests config network old m place events replies new =
-    (after : WorldState) × RuledRun config tests network old.unsent events (replies_of replies) after new.unsent
-    × StandsFor new config after
+EndsSo tests roster network old m place events replies new =
+    (after : WorldState) × RuledRun roster tests network old.unsent events (replies_of replies) after new.unsent
+    × StandsFor new roster after
     × (IsHindered network m.writer m.reader (answer_of old m place place replies)
     ⊎ (IsExcusedSo network after m.writer m.reader place
     ⊎ HasCaughtUp after m.writer m.reader place (length (writer_changes (writer_at (machine_of network) m.writer)))))
 
 abbrev Ends : {hearing : Hearing} → Tick hearing → List WorldEvent → List RoundReply → WorldKept hearing → Type 0
-Ends t events replies new = EndsSo t.tests t.config t.network t.old t.m t.place events replies new
+Ends t events replies new = EndsSo t.tests t.roster t.network t.old t.m t.place events replies new
 
 -- so it is where the reader was not behind, and the two stand as they did
 abbrev Unhindered : {hearing : Hearing} → Tick hearing → WorldState → Type 0
@@ -289,7 +289,7 @@ unhindered : {hearing : Hearing} → (t : Tick hearing) (after : WorldState)
     → LeavesPair t.network after t.m.writer t.m.reader → the_last t < acknowledged t → Unhindered t after
 unhindered t after left past =
     ⊎_elim (λ none. inl (inr none.0, λ closed nobody. none.1 closed)) (λ caught. inr caught)
-    (not_behind t.config t.network after t.m.writer t.m.reader t.place (acknowledged t) t.s.sound t.s.bounded left
+    (not_behind t.roster t.network after t.m.writer t.m.reader t.place (acknowledged t) t.s.sound t.s.bounded left
     (stands t) past)
 
 -- ---- no HEARTBEAT was sent
@@ -301,13 +301,13 @@ beat_is_found : {hearing : Hearing} → (t : Tick hearing) → acknowledged t �
     (length t.mid.sent) → ⊥
 beat_is_found t behind left none =
     let beat =
-    beats_are_sent t.config t.tests t.m.writer t.m.reader (acknowledged t) t.m.moment t.network (after_tick t)
-    (core t).stands.is_peer.roster t.s.used (row t) behind left (ruled0 t) in
-    let name = own_name t.config t.m.writer.peer (part t) (of t) t.m.writer.number (here t) in
+    beats_are_sent t.roster t.tests t.m.writer t.m.reader (acknowledged t) t.m.moment t.network (after_tick t)
+    (core t).stands.is_peer.is_roster t.s.used (row t) behind left (ruled0 t) in
+    let name = own_name t.roster t.m.writer.peer (part t) (of t) t.m.writer.number (here t) in
     let has : Has beat.packet.bytes (sought.Heartbeat t.m.pair.writer) =
     subst (λ (e : EntityId). Has beat.packet.bytes (sought.Heartbeat e)) (sym t.known.writer)
-    (beat_sought t.config t.m.writer beat.packet.bytes beat.count _
-    (writer_entity t.config t.m.writer.peer t.m.writer.number) name.name beat.has) in
+    (beat_sought t.roster t.m.writer beat.packet.bytes beat.count _
+    (writer_entity t.roster t.m.writer.peer t.m.writer.number) name.name beat.has) in
     among_none (IsTo t.m.reader.peer (sought.Heartbeat t.m.pair.writer)) t.old.sent
     (ruled0 t).packets t.mid.sent beat.packet (sent0 t) beat.among (beat.to, has) none
 
@@ -341,7 +341,7 @@ no_beat t none = (
     ticked =
         tick_leaves_pair t.network (noted_tick t) t.m.writer t.m.reader
         (λ p. leaves_ended t.network (world.Tick t.m.writer.peer t.m.moment) (after_tick t) p t.network
-        (tick_leaves t.config t.tests t.network t.m.writer.peer t.m.moment (after_tick t) (ruled0 t).step p))
+        (tick_leaves t.roster t.tests t.network t.m.writer.peer t.m.moment (after_tick t) (ruled0 t).step p))
 
 -- ---- the HEARTBEAT was heard
 
@@ -351,10 +351,10 @@ record Hear (hearing : Hearing) : Type 0 where
   beat : Delivered t.tests (IsTo t.m.reader.peer (sought.Heartbeat t.m.pair.writer)) (length t.old.sent)
       t.m.reader.peer t.old.unsent t.mid
 
-w1 : {hearing : Hearing} → (h : Hear hearing) → Went h.t.tests h.t.config (noted_tick h.t) h.t.mid
+w1 : {hearing : Hearing} → (h : Hear hearing) → Went h.t.tests h.t.roster (noted_tick h.t) h.t.mid
     (world.Deliver h.t.m.reader.peer h.beat.k) h.beat.reply.reply h.beat.mid
 w1 h =
-    went h.t.config (noted_tick h.t) h.t.mid (world.Deliver h.t.m.reader.peer h.beat.k) h.beat.reply h.beat.mid
+    went h.t.roster (noted_tick h.t) h.t.mid (world.Deliver h.t.m.reader.peer h.beat.k) h.beat.reply h.beat.mid
     h.beat.step (w0 h.t).stands
 
 abbrev after_beat : {hearing : Hearing} → Hear hearing → WorldState
@@ -365,7 +365,7 @@ abbrev noted_beat : {hearing : Hearing} → Hear hearing → WorldState
 noted_beat h = world_ended (noted_tick h.t) (world.Deliver h.t.m.reader.peer h.beat.k) (after_beat h)
 
 hears : {hearing : Hearing} → (h : Hear hearing)
-    → Delivers h.t.config h.t.tests (noted_tick h.t) h.t.m.reader.peer h.beat.first.packet
+    → Delivers h.t.roster h.t.tests (noted_tick h.t) h.t.m.reader.peer h.beat.first.packet
     (w1 h).step.lost (after_beat h)
 hears h = delivered h.beat (w0 h.t).stands (w1 h)
 
@@ -373,14 +373,14 @@ among1 : {hearing : Hearing} → (h : Hear hearing) → Contains (ruled0 h.t).pa
 among1 h = sent_since h.t.old.sent (ruled0 h.t).packets h.beat (sent0 h.t)
 
 beat_has : {hearing : Hearing} → (h : Hear hearing)
-    → (count : ℤ) × HasHeartbeat h.t.config h.beat.first.packet.bytes h.t.m.writer count
+    → (count : ℤ) × HasHeartbeat h.t.roster h.beat.first.packet.bytes h.t.m.writer count
 beat_has h =
-    beat_found h.t.config h.t.tests h.t.network h.t.m.moment 0 (after_tick h.t) h.t.m.writer h.beat.first.packet
+    beat_found h.t.roster h.t.tests h.t.network h.t.m.moment 0 (after_tick h.t) h.t.m.writer h.beat.first.packet
     (of h.t) (here h.t) (ruled0 h.t) (among1 h)
     (subst (λ (e : EntityId). Has h.beat.first.packet.bytes (sought.Heartbeat e)) h.t.known.writer h.beat.first.is.1)
 
 begins : {hearing : Hearing} → (h : Hear hearing)
-    → BeginsRound h.t.config h.t.tests h.t.m.writer h.t.m.reader h.t.network (after_beat h)
+    → BeginsRound h.t.roster h.t.tests h.t.m.writer h.t.m.reader h.t.network (after_beat h)
 begins h = record {
   now = h.t.m.moment;
   ticked = after_tick h.t;
@@ -397,15 +397,15 @@ begins h = record {
 
 begun : {hearing : Hearing} → Hear hearing → Begun
 begun h =
-    the_begun h.t.config h.t.tests h.t.m.writer h.t.m.reader h.t.place (acknowledged h.t) h.t.network (after_beat h)
-    (core h.t).stands.is_peer.roster h.t.s.sound h.t.s.used h.t.s.bounded (pair h.t).pair (stands h.t) (begins h)
+    the_begun h.t.roster h.t.tests h.t.m.writer h.t.m.reader h.t.place (acknowledged h.t) h.t.network (after_beat h)
+    (core h.t).stands.is_peer.is_roster h.t.s.sound h.t.s.used h.t.s.bounded (pair h.t).pair (stands h.t) (begins h)
 
 none1 : {hearing : Hearing} → (h : Hear hearing) → (w1 h).step.lost ≡ 0
 none1 h = nothing_lost h.beat (w1 h) h.t.same h.t.below
 
 sent1 : {hearing : Hearing} → (h : Hear hearing) → h.beat.mid.sent ≡ h.t.mid.sent ++ (hears h).step.packets
 sent1 h =
-    sent_by h.t.config (noted_tick h.t) h.t.mid (world.Deliver h.t.m.reader.peer (hears h).number) _ (w1 h).step.lost
+    sent_by h.t.roster (noted_tick h.t) h.t.mid (world.Deliver h.t.m.reader.peer (hears h).number) _ (w1 h).step.lost
     (after_beat h) h.beat.mid (w0 h.t).stands (w1 h).stands (hears h).step
 
 -- the ACKNACK, as it is looked for
@@ -413,10 +413,10 @@ abbrev ask_of : {hearing : Hearing} → Hear hearing → Sought
 ask_of h = sought.AckNack h.t.m.pair.reader h.t.m.pair.writer
 
 ask_is : {hearing : Hearing} → (h : Hear hearing) → sought.AckNack (pair h.t).pair.reader_entity
-    (writer_entity h.t.config h.t.m.writer.peer h.t.m.writer.number) ≡ ask_of h
+    (writer_entity h.t.roster h.t.m.writer.peer h.t.m.writer.number) ≡ ask_of h
 ask_is h =
     let r : h.t.m.pair.reader ≡ (pair h.t).pair.reader_entity =
-    h.t.known.reader ∙ reader_entity_is h.t.config _ (pair h.t).pair.reader_entity h.t.m.reader (pair h.t).pair.is_reader in
+    h.t.known.reader ∙ reader_entity_is h.t.roster _ (pair h.t).pair.reader_entity h.t.m.reader (pair h.t).pair.is_reader in
     let w = h.t.known.writer in cc
 
 -- one that was sent, as the reader was told, is found
@@ -464,10 +464,10 @@ record Ask (hearing : Hearing) : Type 0 where
   ask : Delivered h.t.tests (IsTo h.t.m.writer.peer (ask_of h)) (length h.t.mid.sent) h.t.m.writer.peer h.t.old.unsent
       h.beat.mid
 
-w2 : {hearing : Hearing} → (a : Ask hearing) → Went a.h.t.tests a.h.t.config (noted_beat a.h) a.h.beat.mid
+w2 : {hearing : Hearing} → (a : Ask hearing) → Went a.h.t.tests a.h.t.roster (noted_beat a.h) a.h.beat.mid
     (world.Deliver a.h.t.m.writer.peer a.ask.k) a.ask.reply.reply a.ask.mid
 w2 a =
-    went a.h.t.config (noted_beat a.h) a.h.beat.mid (world.Deliver a.h.t.m.writer.peer a.ask.k) a.ask.reply
+    went a.h.t.roster (noted_beat a.h) a.h.beat.mid (world.Deliver a.h.t.m.writer.peer a.ask.k) a.ask.reply
     a.ask.mid a.ask.step (w1 a.h).stands
 
 abbrev after_ask : {hearing : Hearing} → Ask hearing → WorldState
@@ -478,24 +478,24 @@ abbrev noted_ask : {hearing : Hearing} → Ask hearing → WorldState
 noted_ask a = world_ended (noted_beat a.h) (world.Deliver a.h.t.m.writer.peer a.ask.k) (after_ask a)
 
 takes : {hearing : Hearing} → (a : Ask hearing)
-    → Delivers a.h.t.config a.h.t.tests (noted_beat a.h) a.h.t.m.writer.peer a.ask.first.packet 0
+    → Delivers a.h.t.roster a.h.t.tests (noted_beat a.h) a.h.t.m.writer.peer a.ask.first.packet 0
     (after_ask a)
 takes a =
-    subst (λ (n : ℕ). Delivers a.h.t.config a.h.t.tests (noted_beat a.h) a.h.t.m.writer.peer a.ask.first.packet n
+    subst (λ (n : ℕ). Delivers a.h.t.roster a.h.t.tests (noted_beat a.h) a.h.t.m.writer.peer a.ask.first.packet n
     (after_ask a)) (nothing_lost a.ask (w2 a) a.h.beat.same a.h.t.below) (delivered a.ask (w1 a.h).stands (w2 a))
 
 among2 : {hearing : Hearing} → (a : Ask hearing) → Contains (hears a.h).step.packets a.ask.first.packet
 among2 a = sent_since a.h.t.mid.sent (hears a.h).step.packets a.ask (sent1 a.h)
 
 ask_has : {hearing : Hearing} → (a : Ask hearing)
-    → (count : ℤ) × HasAckNack a.h.t.config a.ask.first.packet.bytes a.h.t.m.writer a.h.t.m.reader count
+    → (count : ℤ) × HasAckNack a.h.t.roster a.ask.first.packet.bytes a.h.t.m.writer a.h.t.m.reader count
 unfolding begun begins hears
 ask_has a =
     ask_found_among (begun a.h) a.ask.first.packet (among2 a)
     (subst (λ (x : Sought). Has a.ask.first.packet.bytes x) (sym (ask_is a.h)) a.ask.first.is.1)
 
 asks : {hearing : Hearing} → (a : Ask hearing)
-    → AsksInRound a.h.t.config a.h.t.tests a.h.t.m.writer a.h.t.m.reader a.h.t.network (after_ask a)
+    → AsksInRound a.h.t.roster a.h.t.tests a.h.t.m.writer a.h.t.m.reader a.h.t.network (after_ask a)
 unfolding begins hears
 asks a = record {
   heard = after_beat a.h;
@@ -512,7 +512,7 @@ answers a = (takes a).step.packets
 
 sent2 : {hearing : Hearing} → (a : Ask hearing) → a.ask.mid.sent ≡ a.h.beat.mid.sent ++ answers a
 sent2 a =
-    sent_by a.h.t.config (noted_beat a.h) a.h.beat.mid (world.Deliver a.h.t.m.writer.peer (takes a).number) _ 0
+    sent_by a.h.t.roster (noted_beat a.h) a.h.beat.mid (world.Deliver a.h.t.m.writer.peer (takes a).number) _ 0
     (after_ask a) a.ask.mid (w1 a.h).stands (w2 a).stands (takes a).step
 
 -- the deliveries of all of them
@@ -536,8 +536,8 @@ unfolding asks
 all_answers a =
     let c = a.h.t in
     let few =
-    answers_are_few c.config a.h.t.tests c.m.writer c.m.reader c.place (acknowledged c) c.network (after_ask a)
-    (core c).stands.is_peer.roster c.s.sound c.s.used c.s.bounded (pair c).pair (stands c) (asks a) in
+    answers_are_few c.roster a.h.t.tests c.m.writer c.m.reader c.place (acknowledged c) c.network (after_ask a)
+    (core c).stands.is_peer.is_roster c.s.sound c.s.used c.s.bounded (pair c).pair (stands c) (asks a) in
     let most : length (answers a) ≤ 256 = enough (writer_at (machine_of c.network) c.m.writer).max_value _ few in
     let size = ap (λ (ps : List Packet). length ps) (sent2 a) in
     let parts = length-append a.h.beat.mid.sent (answers a) in
@@ -560,8 +560,8 @@ answered {hearing} a later rest new whole next = (
     (after_beat a.h, a.h.beat.mid.unsent, (w1 a.h).step, (after_ask a, a.ask.mid.unsent, (w2 a).step, run)),
   ),
   all.stands,
-  inr (inr (pair_catches_up c.config a.h.t.tests c.m.writer c.m.reader c.place (acknowledged c) c.network all.after
-      (core c).stands.is_peer.roster c.s.sound c.s.used c.s.bounded (pair c).pair (stands c) c.spoken round)),
+  inr (inr (pair_catches_up c.roster a.h.t.tests c.m.writer c.m.reader c.place (acknowledged c) c.network all.after
+      (core c).stands.is_peer.is_roster c.s.sound c.s.used c.s.bounded (pair c).pair (stands c) c.spoken round)),
 )
   where
     c : Tick hearing
@@ -578,18 +578,18 @@ answered {hearing} a later rest new whole next = (
         (subst (λ (ps : List Packet). slice_get ps (length a.h.beat.mid.sent + k) ≡ Some p) (sym (sent2 a))
         (get_later a.h.beat.mid.sent (answers a) k p is))
 
-    all : Ran a.h.t.tests c.config (noted_ask a) a.ask.mid (deliveries a) rest new
-        (λ x. DeliversAll c.config a.h.t.tests (noted_ask a) c.m.reader.peer (answers a) x)
+    all : Ran a.h.t.tests c.roster (noted_ask a) a.ask.mid (deliveries a) rest new
+        (λ x. DeliversAll c.roster a.h.t.tests (noted_ask a) c.m.reader.peer (answers a) x)
     all =
-        deliver_all c.config c.m.reader.peer (length a.h.beat.mid.sent + 1) (answers a) (noted_ask a) a.ask.mid rest new
+        deliver_all c.roster c.m.reader.peer (length a.h.beat.mid.sent + 1) (answers a) (noted_ask a) a.ask.mid rest new
         (omega arith) at whole steps (w2 a).stands
 
-    run : RuledRun c.config a.h.t.tests (noted_ask a) a.ask.mid.unsent later (replies_of rest) all.after new.unsent
+    run : RuledRun c.roster a.h.t.tests (noted_ask a) a.ask.mid.unsent later (replies_of rest) all.after new.unsent
     run =
-        subst (λ (es : List WorldEvent). RuledRun c.config a.h.t.tests (noted_ask a) a.ask.mid.unsent es
+        subst (λ (es : List WorldEvent). RuledRun c.roster a.h.t.tests (noted_ask a) a.ask.mid.unsent es
         (replies_of rest) all.after new.unsent) (sym (next.0 ∙ all_answers a)) all.run
 
-    round : IsRepairRound c.config a.h.t.tests c.m.writer c.m.reader c.network all.after
+    round : IsRepairRound c.roster a.h.t.tests c.m.writer c.m.reader c.network all.after
     round = record { asked = after_ask a; asks = asks a; repairs = all.then }
 
 -- ---- the stages
@@ -602,7 +602,7 @@ after_hearing : {hearing : Hearing} → (h : Hear hearing) (events : List WorldE
     → Ends h.t (world.Tick h.t.m.writer.peer h.t.m.moment ∷ world.Deliver h.t.m.reader.peer h.beat.k ∷ events)
     (h.t.ticked ∷ h.beat.reply ∷ replies) new
 after_hearing h events replies new whole same more next =
-    stage_delivers h.t.config (noted_beat h) (IsTo h.t.m.writer.peer (ask_of h)) (length h.t.mid.sent)
+    stage_delivers h.t.roster (noted_beat h) (IsTo h.t.m.writer.peer (ask_of h)) (length h.t.mid.sent)
     h.t.m.writer.peer h.t.old.unsent (Answering h.t.tests h.t.m.reader.peer (length h.beat.mid.sent)) h.beat.mid events
     replies new
     (λ es rs n. Ends h.t (world.Tick h.t.m.writer.peer h.t.m.moment ∷ world.Deliver h.t.m.reader.peer h.beat.k ∷ es)
@@ -616,7 +616,7 @@ after_ticking : {hearing : Hearing} → (t : Tick hearing) (events : List WorldE
     → Beating t.tests t.m (length t.old.sent) t.mid events replies new
     → Ends t (world.Tick t.m.writer.peer t.m.moment ∷ events) (t.ticked ∷ replies) new
 after_ticking t events replies new whole same more next =
-    stage_delivers t.config (noted_tick t) (IsTo t.m.reader.peer (sought.Heartbeat t.m.pair.writer))
+    stage_delivers t.roster (noted_tick t) (IsTo t.m.reader.peer (sought.Heartbeat t.m.pair.writer))
     (length t.old.sent) t.m.reader.peer t.old.unsent (Acknowledging t.tests t.m (length t.mid.sent)) t.mid events
     replies new (λ es rs n. Ends t (world.Tick t.m.writer.peer t.m.moment ∷ es) (t.ticked ∷ rs) n) (w0 t).stands same
     more (λ mid es rs a. acks_steps t.m (length t.mid.sent) mid es rs new a) (no_beat t)
@@ -630,41 +630,41 @@ ends : {hearing : Hearing} → {tests : AllTests} → (old : WorldKept hearing) 
     (events : List WorldEvent) (replies : List RoundReply) (new : WorldKept hearing) → IsKnown old m
     → IsStep tests old (world.Tick m.writer.peer m.moment) ticked mid
     → Beating tests m (length old.sent) mid events replies new
-    → (config : Config) (network : WorldState) (place : ℕ) → StandsFor old config network
+    → (roster : Roster) (network : WorldState) (place : ℕ) → StandsFor old roster network
     → place_at (machine_of network) m.reader m.writer ≡ Some place
     → true ≡ is_attached (how_of (own_proxies (part_at (machine_of network) m.reader.peer) m.reader.number) m.writer)
-    → EndsSo tests config network old m place (world.Tick m.writer.peer m.moment ∷ events) (ticked ∷ replies) new
-ends {hearing} {tests} old m ticked mid events replies new known tick beats config network place s at here =
+    → EndsSo tests roster network old m place (world.Tick m.writer.peer m.moment ∷ events) (ticked ∷ replies) new
+ends {hearing} {tests} old m ticked mid events replies new known tick beats roster network place s at here =
     by (is_silent network m) refl
   where
     steps : AreSteps tests mid events replies new
     steps = beats_steps m (length old.sent) mid events replies new beats
 
-    all : Ran tests config network old (world.Tick m.writer.peer m.moment ∷ events) (ticked ∷ replies) new
+    all : Ran tests roster network old (world.Tick m.writer.peer m.moment ∷ events) (ticked ∷ replies) new
         (λ x. Unit {0})
     all =
-        ran config network old (world.Tick m.writer.peer m.moment ∷ events) (ticked ∷ replies) new (mid, tick, steps) s
+        ran roster network old (world.Tick m.writer.peer m.moment ∷ events) (ticked ∷ replies) new (mid, tick, steps) s
 
     hindered : IsHindered network m.writer m.reader (answer_of old m place place (ticked ∷ replies))
-        → EndsSo tests config network old m place (world.Tick m.writer.peer m.moment ∷ events) (ticked ∷ replies) new
+        → EndsSo tests roster network old m place (world.Tick m.writer.peer m.moment ∷ events) (ticked ∷ replies) new
     hindered why = (all.after, all.run, all.stands, inl why)
 
     excused : is_silent network m ≡ true
-        → EndsSo tests config network old m place (world.Tick m.writer.peer m.moment ∷ events) (ticked ∷ replies) new
+        → EndsSo tests roster network old m place (world.Tick m.writer.peer m.moment ∷ events) (ticked ∷ replies) new
     excused is =
         let nobody_so : NobodyIsSilent network → ⊥ = λ nobody. let no = sym is ∙ nobody m.writer m.reader in cc in
         (all.after, all.run, all.stands, inr (inl (inl is, λ closed nobody. absurd (nobody_so nobody))))
 
     good : is_silent network m ≡ false → are_whole (ticked ∷ replies) ≡ true → new.unsent ≤ old.unsent
         → old.unsent < 2 ^ 64 - 1
-        → EndsSo tests config network old m place (world.Tick m.writer.peer m.moment ∷ events) (ticked ∷ replies) new
+        → EndsSo tests roster network old m place (world.Tick m.writer.peer m.moment ∷ events) (ticked ∷ replies) new
     good spoken whole same below =
         let w =
-        first_whole config network old (world.Tick m.writer.peer m.moment) ticked mid events replies new old.unsent
+        first_whole roster network old (world.Tick m.writer.peer m.moment) ticked mid events replies new old.unsent
         tick steps s whole same (omega arith) in
         let t : Tick hearing = record {
           tests = tests;
-          config = config;
+          roster = roster;
           network = network;
           old = old;
           mid = mid;
@@ -674,7 +674,7 @@ ends {hearing} {tests} old m ticked mid events replies new known tick beats conf
           s = s;
           at = at;
           attached = sym here;
-          known = known config network s;
+          known = known roster network s;
           step = tick;
           whole = w.whole;
           same = w.same;
@@ -685,7 +685,7 @@ ends {hearing} {tests} old m ticked mid events replies new known tick beats conf
 
     all_sent : is_silent network m ≡ false → are_whole (ticked ∷ replies) ≡ true → (b : Bool)
         → has_unsent old.unsent (ticked ∷ replies) ≡ b
-        → EndsSo tests config network old m place (world.Tick m.writer.peer m.moment ∷ events) (ticked ∷ replies) new
+        → EndsSo tests roster network old m place (world.Tick m.writer.peer m.moment ∷ events) (ticked ∷ replies) new
     all_sent spoken whole true e = hindered (inr (inl e))
     all_sent spoken whole false e =
         let same =
@@ -695,12 +695,12 @@ ends {hearing} {tests} old m ticked mid events replies new known tick beats conf
         (cases_lt old.unsent (2 ^ 64 - 1))
 
     all_whole : is_silent network m ≡ false → (b : Bool) → are_whole (ticked ∷ replies) ≡ b
-        → EndsSo tests config network old m place (world.Tick m.writer.peer m.moment ∷ events) (ticked ∷ replies) new
+        → EndsSo tests roster network old m place (world.Tick m.writer.peer m.moment ∷ events) (ticked ∷ replies) new
     all_whole spoken false e = hindered (inl e)
     all_whole spoken true e = all_sent spoken e (has_unsent old.unsent (ticked ∷ replies)) refl
 
     by : (b : Bool) → is_silent network m ≡ b
-        → EndsSo tests config network old m place (world.Tick m.writer.peer m.moment ∷ events) (ticked ∷ replies) new
+        → EndsSo tests roster network old m place (world.Tick m.writer.peer m.moment ∷ events) (ticked ∷ replies) new
     by true e = excused e
     by false e = all_whole e (are_whole (ticked ∷ replies)) refl
 
@@ -720,21 +720,21 @@ rounds_of : {hearing : Hearing} → {tests : AllTests} → (old : WorldKept hear
 rounds_of {tests} old m ticked mid events replies new from to known tick beats from_is here to_is = record {
   events = world.Tick m.writer.peer m.moment ∷ events;
   steps = (mid, tick, beats_steps m (length old.sent) mid events replies new beats);
-  round = λ config network s.
-      let k = known config network s in
-      let before : place_at (machine_of network) m.reader m.writer ≡ Some from = sym (from_is config network s) in
-      let end = ends old m ticked mid events replies new known tick beats config network from s before
-      (here config network s) in
+  round = λ roster network s.
+      let k = known roster network s in
+      let before : place_at (machine_of network) m.reader m.writer ≡ Some from = sym (from_is roster network s) in
+      let end = ends old m ticked mid events replies new known tick beats roster network from s before
+      (here roster network s) in
       let all : List WorldEvent = world.Tick m.writer.peer m.moment ∷ events in
       let no_less =
-      places_after config tests network old.unsent all
+      places_after roster tests network old.unsent all
       (replies_of (ticked ∷ replies)) end.0 new.unsent end.1 m.reader m.writer in
       let at_most = subst (λ (o : Option ℕ). NoLess o (place_at (machine_of end.0) m.reader m.writer)) before no_less in
-      let after : to ≡ place_at (machine_of end.0) m.reader m.writer = to_is config end.0 end.2 in
+      let after : to ≡ place_at (machine_of end.0) m.reader m.writer = to_is roster end.0 end.2 in
       let there : to ≡ Some (unwrap_or to from) =
       still_there to from (subst (λ (o : Option ℕ). IsAtMost from o) (sym after) at_most) in
       record {
-        is_round = round_is old m ticked mid events replies new known tick beats config network s;
+        is_round = round_is old m ticked mid events replies new known tick beats roster network s;
         after = end.0;
         run = end.1;
         stands = end.2;

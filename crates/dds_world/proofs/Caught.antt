@@ -2,7 +2,7 @@
 use Rattle.std.proofs.Common.{◌≡◌, ℕ, zero, suc, ◌+◌, ◌-◌, ◌^◌, ◌<◌, ◌≤◌, ◌&&◌, ◌||◌, min, Bool, true, false, not, List, [], ◌∷◌, ◌++◌, Option, Some, None, Contains, map, length, get_or, slice_get, is_some, refl, subst, ap, sym, ◌∙◌, inl, inr, ⊎_elim, arith}
 use Rattle.std.specs.Prelude.{nat_lt}
 use Rattle.std.proofs.lemmas.Bool.Decides.{nat_tests}
-use Rattle.dds_base.specs.declared.config.Config.{Config}
+use Rattle.dds_protocol.specs.Roster.{Roster}
 use Rattle.dds_base.specs.Kept.{numbers_from}
 use Rattle.dds_protocol.specs.Noticing.{world_ended}
 use Rattle.dds_protocol.proofs.EndsBeside.{world_beside}
@@ -42,16 +42,16 @@ use Rattle.dds_world.proofs.RunSteps.{Went, ended, went_by}
 -- ---- the peers
 
 -- what a network keeps of a peer
-pub record CoreAt (config : Config) (network : WorldState) (n : ℕ) : Type 0 where
+pub record CoreAt (roster : Roster) (network : WorldState) (n : ℕ) : Type 0 where
   pub core : PeerKept
-  pub stands : CoreStandsFor core config (peer_at network n)
-  pub known : IsSound config (peer_at network n)
+  pub stands : CoreStandsFor core roster (peer_at network n)
+  pub known : IsSound roster (peer_at network n)
 
-pub core_at : {hearing : Hearing} → (kept : WorldKept hearing) (config : Config) (network : WorldState) (n : ℕ)
-    → StandsFor kept config network
-    → HasNumber network.peers n → CoreAt config network n
-core_at kept config network zero s has = let low = has.0 in absurd (omega (arith, low))
-core_at kept config network (suc i) s has =
+pub core_at : {hearing : Hearing} → (kept : WorldKept hearing) (roster : Roster) (network : WorldState) (n : ℕ)
+    → StandsFor kept roster network
+    → HasNumber network.peers n → CoreAt roster network n
+core_at kept roster network zero s has = let low = has.0 in absurd (omega (arith, low))
+core_at kept roster network (suc i) s has =
     let count = s.count in
     let high = has.1 in
     let found = element kept.peers i (omega (arith, count, high)) in
@@ -73,15 +73,15 @@ pub record PlaceKnown (network : WorldState) (writer reader : Endpoint) (place :
   pub here : HasNumber (peer_at network reader.peer).part.dds.readers reader.number
   pub known : (tracked_at network writer reader).place ≡ place
 
-pub place_known : {hearing : Hearing} → (kept : WorldKept hearing) (config : Config) (network : WorldState)
+pub place_known : {hearing : Hearing} → (kept : WorldKept hearing) (roster : Roster) (network : WorldState)
     (writer reader : Endpoint) (place : ℕ)
-    → StandsFor kept config network
+    → StandsFor kept roster network
     → place_at (machine_of network) reader writer ≡ Some place → PlaceKnown network writer reader place
-place_known kept config network writer reader place s at =
+place_known kept roster network writer reader place s at =
     let row : place_of (own_proxies (peer_at network reader.peer).part reader.number) writer ≡ Some place =
     sym (place_is network reader writer) ∙ at in
     let has = has_reader (peer_at network reader.peer).part reader.number place writer row in
-    let c = core_at kept config network reader.peer s (peer_there network.peers reader.peer reader.number has) in
+    let c = core_at kept roster network reader.peer s (peer_there network.peers reader.peer reader.number has) in
     let rows = c.stands.readers.rows in
     let count = c.stands.readers.count in
     let low = has.0 in
@@ -93,10 +93,10 @@ place_known kept config network writer reader place s at =
     }
 
 -- a writer has far fewer changes than there are numbers
-pub few_changes : (core : PeerKept) (config : Config) (peer : Peer) (n : ℕ) → CoreStandsFor core config peer
+pub few_changes : (core : PeerKept) (roster : Roster) (peer : Peer) (n : ℕ) → CoreStandsFor core roster peer
     → HasNumber peer.part.rtps.writers n → length (writer_changes (own_writer peer.part n)) < 2 ^ 62
-few_changes core config peer zero s has = let low = has.0 in absurd (omega (arith, low))
-few_changes core config peer (suc i) s has =
+few_changes core roster peer zero s has = let low = has.0 in absurd (omega (arith, low))
+few_changes core roster peer (suc i) s has =
     let count = s.writers.count in
     let high = has.1 in
     let found = element core.writers i (omega (arith, count, high)) in
@@ -107,31 +107,31 @@ few_changes core config peer (suc i) s has =
 
 -- ---- one step
 
-pub went : {hearing : Hearing} → {tests : AllTests} → (config : Config) (network : WorldState)
+pub went : {hearing : Hearing} → {tests : AllTests} → (roster : Roster) (network : WorldState)
     (old : WorldKept hearing) (ev : WorldEvent)
-    (reply : RoundReply) (new : WorldKept hearing) → IsStep tests old ev reply new → StandsFor old config network
-    → Went tests config network old ev reply.reply new
-went config network old ev reply new step s = went_by config network old ev reply.reply new step.rules s
+    (reply : RoundReply) (new : WorldKept hearing) → IsStep tests old ev reply new → StandsFor old roster network
+    → Went tests roster network old ev reply.reply new
+went roster network old ev reply new step s = went_by roster network old ev reply.reply new step.rules s
 
 -- the packets that were sent at it follow those before
 pub sent_by : {hearing : Hearing} → {tests : AllTests}
-    → (config : Config) (network : WorldState) (old : WorldKept hearing) (ev : WorldEvent) (reply : Reply) (lost : ℕ)
-    (after : WorldState) (new : WorldKept hearing) → StandsFor old config network
-    → StandsFor new config (world_ended network ev after)
-    → (r : RuledStep config tests network ev reply lost after) → new.sent ≡ old.sent ++ r.packets
-sent_by config network old ev reply lost after new s stands r =
+    → (roster : Roster) (network : WorldState) (old : WorldKept hearing) (ev : WorldEvent) (reply : Reply) (lost : ℕ)
+    (after : WorldState) (new : WorldKept hearing) → StandsFor old roster network
+    → StandsFor new roster (world_ended network ev after)
+    → (r : RuledStep roster tests network ev reply lost after) → new.sent ≡ old.sent ++ r.packets
+sent_by roster network old ev reply lost after new s stands r =
     sym stands.sent ∙ (r.sent ∙ ap (λ (ps : List Packet). ps ++ r.packets) s.sent)
 
 -- a tick for which memory was found is done
 pub whole_tick : (tests : AllTests)
-    → (config : Config) (old : WorldState) (peer now : ℕ) (reply : Reply) (new : WorldState) → is_whole reply ≡ true
-    → WorldStep config tests old (world.Tick peer now) reply new → reply ≡ Done
-whole_tick tests config old peer now Done new whole step = refl
-whole_tick tests config old peer now (Reported report) new whole (inl h) =
+    → (roster : Roster) (old : WorldState) (peer now : ℕ) (reply : Reply) (new : WorldState) → is_whole reply ≡ true
+    → WorldStep roster tests old (world.Tick peer now) reply new → reply ≡ Done
+whole_tick tests roster old peer now Done new whole step = refl
+whole_tick tests roster old peer now (Reported report) new whole (inl h) =
     let asked : ℕ → Bool = was_asked (peer_at old peer).known.answered (peer_at old peer).part in
     absurd (subst (λ (r : Reply). TicksAsked asked (peer_at old peer).part now r h.after.part) h.replies h.step.step.0)
-whole_tick tests config old peer now (Reported report) new whole (inr h) = let r = h.1.is_refused in absurd cc
-whole_tick tests config old peer now reply new whole step = absurd cc
+whole_tick tests roster old peer now (Reported report) new whole (inr h) = let r = h.1.is_refused in absurd cc
+whole_tick tests roster old peer now reply new whole step = absurd cc
 
 -- a delivery for which memory was found is reported as whole
 record WholeReport (reply : Reply) : Type 0 where
@@ -144,30 +144,30 @@ not_some None h = refl
 not_some (Some n) h = absurd cc
 
 whole_report : (tests : AllTests)
-    → (config : Config) (old : WorldState) (peer k : ℕ) (reply : Reply) (new : WorldState) → is_whole reply ≡ true
-    → WorldStep config tests old (world.Deliver peer k) reply new → WholeReport reply
-whole_report tests config old peer k Done new whole (inl h) =
-    absurd (subst (λ (r : Reply). EventStep config (tests peer) (peer_at old peer)
+    → (roster : Roster) (old : WorldState) (peer k : ℕ) (reply : Reply) (new : WorldState) → is_whole reply ≡ true
+    → WorldStep roster tests old (world.Deliver peer k) reply new → WholeReport reply
+whole_report tests roster old peer k Done new whole (inl h) =
+    absurd (subst (λ (r : Reply). EventStep roster (tests peer) (peer_at old peer)
     (event.Deliver h.0.bytes) r h.3.after) h.3.replies h.3.step.step)
-whole_report tests config old peer k Done new whole (inr h) = let r = h.1.is_refused in absurd cc
-whole_report tests config old peer k (Reported report) new whole step =
+whole_report tests roster old peer k Done new whole (inr h) = let r = h.1.is_refused in absurd cc
+whole_report tests roster old peer k (Reported report) new whole step =
     record { report = report; is = refl; none = not_some report.refused whole }
-whole_report tests config old peer k reply new whole step = absurd cc
+whole_report tests roster old peer k reply new whole step = absurd cc
 
 pub delivers : {hearing : Hearing} → {tests : AllTests}
-    → (config : Config) (network : WorldState) (old : WorldKept hearing) (peer k : ℕ) (packet : Packet) (reply : Reply)
-    (new : WorldKept hearing) → StandsFor old config network → slice_get old.sent (k - 1) ≡ Some packet → is_whole reply ≡ true
-    → (w : Went tests config network old (world.Deliver peer k) reply new)
-    → Delivers config tests network peer packet w.step.lost w.after
-delivers {tests} config network old peer k packet reply new s at whole w =
-    let r = whole_report tests config network peer k reply w.after whole w.step.ruled.step in
+    → (roster : Roster) (network : WorldState) (old : WorldKept hearing) (peer k : ℕ) (packet : Packet) (reply : Reply)
+    (new : WorldKept hearing) → StandsFor old roster network → slice_get old.sent (k - 1) ≡ Some packet → is_whole reply ≡ true
+    → (w : Went tests roster network old (world.Deliver peer k) reply new)
+    → Delivers roster tests network peer packet w.step.lost w.after
+delivers {tests} roster network old peer k packet reply new s at whole w =
+    let r = whole_report tests roster network peer k reply w.after whole w.step.ruled.step in
     record {
       number = k;
       at = subst (λ (ps : List Packet). slice_get ps (k - 1) ≡ Some packet) (sym s.sent) at;
       report = r.report;
       whole = r.none;
       step =
-          subst (λ (x : Reply). RuledStep config tests network (world.Deliver peer k) x w.step.lost w.after) r.is
+          subst (λ (x : Reply). RuledStep roster tests network (world.Deliver peer k) x w.step.lost w.after) r.is
           w.step.ruled;
     }
 
@@ -178,54 +178,54 @@ both_are true b h = (refl, h)
 both_are false b h = absurd cc
 
 -- a run by the rules, and what is so after it
-pub record Ran {hearing : Hearing} (tests : AllTests) (config : Config) (network : WorldState)
+pub record Ran {hearing : Hearing} (tests : AllTests) (roster : Roster) (network : WorldState)
     (old : WorldKept hearing) (events : List WorldEvent)
     (replies : List RoundReply) (new : WorldKept hearing) (Then : WorldState → Type 0) : Type 0 where
   pub after : WorldState
-  pub run : RuledRun config tests network old.unsent events (replies_of replies) after new.unsent
-  pub stands : StandsFor new config after
+  pub run : RuledRun roster tests network old.unsent events (replies_of replies) after new.unsent
+  pub stands : StandsFor new roster after
   pub then : Then after
 
 -- a run of no step
-ran_none : {hearing : Hearing} → {tests : AllTests} → (config : Config) (network : WorldState)
+ran_none : {hearing : Hearing} → {tests : AllTests} → (roster : Roster) (network : WorldState)
     (old new : WorldKept hearing)
-    {Then : WorldState → Type 0} → new ≡ old → StandsFor old config network → Then network
-    → Ran tests config network old [] [] new Then
-ran_none {hearing} config network old new same s so = record {
+    {Then : WorldState → Type 0} → new ≡ old → StandsFor old roster network → Then network
+    → Ran tests roster network old [] [] new Then
+ran_none {hearing} roster network old new same s so = record {
   after = network;
   run = (refl, ap (λ (k : WorldKept hearing). k.unsent) same);
-  stands = subst (λ (k : WorldKept hearing). StandsFor k config network) (sym same) s;
+  stands = subst (λ (k : WorldKept hearing). StandsFor k roster network) (sym same) s;
   then = so;
 }
 
-pub ran : {hearing : Hearing} → {tests : AllTests} → (config : Config) (network : WorldState)
+pub ran : {hearing : Hearing} → {tests : AllTests} → (roster : Roster) (network : WorldState)
     (old : WorldKept hearing) (events : List WorldEvent)
-    (replies : List RoundReply) (new : WorldKept hearing) → AreSteps tests old events replies new → StandsFor old config network
-    → Ran tests config network old events replies new (λ x. Unit {0})
-ran config network old [] [] new same s = ran_none config network old new same s tt
-ran config network old (e ∷ es) (r ∷ rs) new h s =
-    let w = went config network old e r h.0 h.1 s in
-    let rest = ran config (world_ended network e w.after) h.0 es rs new h.2 w.stands in
+    (replies : List RoundReply) (new : WorldKept hearing) → AreSteps tests old events replies new → StandsFor old roster network
+    → Ran tests roster network old events replies new (λ x. Unit {0})
+ran roster network old [] [] new same s = ran_none roster network old new same s tt
+ran roster network old (e ∷ es) (r ∷ rs) new h s =
+    let w = went roster network old e r h.0 h.1 s in
+    let rest = ran roster (world_ended network e w.after) h.0 es rs new h.2 w.stands in
     record { after = rest.after; run = (w.after, h.0.unsent, w.step, rest.run); stands = rest.stands; then = tt }
-ran config network old [] (r ∷ rs) new h s = absurd h
-ran config network old (e ∷ es) [] new h s = absurd h
+ran roster network old [] (r ∷ rs) new h s = absurd h
+ran roster network old (e ∷ es) [] new h s = absurd h
 
 -- what is counted as unsent does not get less
 no_less : (old lost new : ℕ) → new ≡ min (old + lost) (2 ^ 64 - 1) → old ≤ 2 ^ 64 - 1 → old ≤ new
 no_less old lost new is few = omega (arith, is, few)
 
 pub unsent_on : {hearing : Hearing} → (tests : AllTests)
-    → (config : Config) (network : WorldState) (old : WorldKept hearing) (events : List WorldEvent) (replies : List RoundReply)
-    (new : WorldKept hearing) → AreSteps tests old events replies new → StandsFor old config network
+    → (roster : Roster) (network : WorldState) (old : WorldKept hearing) (events : List WorldEvent) (replies : List RoundReply)
+    (new : WorldKept hearing) → AreSteps tests old events replies new → StandsFor old roster network
     → old.unsent ≤ new.unsent
-unsent_on {hearing} tests config network old [] [] new same s = let e = ap (λ (k : WorldKept hearing). k.unsent) same in omega (arith, e)
-unsent_on tests config network old (e ∷ es) (r ∷ rs) new h s =
-    let w = went config network old e r h.0 h.1 s in
+unsent_on {hearing} tests roster network old [] [] new same s = let e = ap (λ (k : WorldKept hearing). k.unsent) same in omega (arith, e)
+unsent_on tests roster network old (e ∷ es) (r ∷ rs) new h s =
+    let w = went roster network old e r h.0 h.1 s in
     let first = no_less old.unsent w.step.lost h.0.unsent w.step.counted s.few in
-    let rest = unsent_on tests config (world_ended network e w.after) h.0 es rs new h.2 w.stands in
+    let rest = unsent_on tests roster (world_ended network e w.after) h.0 es rs new h.2 w.stands in
     omega (arith, first, rest)
-unsent_on tests config network old [] (r ∷ rs) new h s = absurd h
-unsent_on tests config network old (e ∷ es) [] new h s = absurd h
+unsent_on tests roster network old [] (r ∷ rs) new h s = absurd h
+unsent_on tests roster network old (e ∷ es) [] new h s = absurd h
 
 -- memory was found for this step, and for those after it, and after it as many are counted as unsent as these
 pub record FirstWhole {hearing : Hearing} (unsent : ℕ) (reply : RoundReply) (mid : WorldKept hearing)
@@ -237,16 +237,16 @@ pub record FirstWhole {hearing : Hearing} (unsent : ℕ) (reply : RoundReply) (m
 
 -- so it is with the first of steps that are whole, where no more are counted in the end
 pub first_whole : {hearing : Hearing} → {tests : AllTests}
-    → (config : Config) (network : WorldState) (old : WorldKept hearing) (ev : WorldEvent) (reply : RoundReply)
+    → (roster : Roster) (network : WorldState) (old : WorldKept hearing) (ev : WorldEvent) (reply : RoundReply)
     (mid : WorldKept hearing) (events : List WorldEvent) (replies : List RoundReply) (new : WorldKept hearing) (unsent : ℕ)
-    → IsStep tests old ev reply mid → AreSteps tests mid events replies new → StandsFor old config network
+    → IsStep tests old ev reply mid → AreSteps tests mid events replies new → StandsFor old roster network
     → are_whole (reply ∷ replies) ≡ true → new.unsent ≤ unsent → unsent ≤ old.unsent
     → FirstWhole unsent reply mid replies
-first_whole {tests} config network old ev reply mid events replies new unsent step steps s whole high low =
+first_whole {tests} roster network old ev reply mid events replies new unsent step steps s whole high low =
     let all = both_are (is_whole reply.reply) (are_whole replies) whole in
-    let w = went config network old ev reply mid step s in
+    let w = went roster network old ev reply mid step s in
     let first = no_less old.unsent w.step.lost mid.unsent w.step.counted s.few in
-    let rest = unsent_on tests config (ended w) mid events replies new steps w.stands in
+    let rest = unsent_on tests roster (ended w) mid events replies new steps w.stands in
     record {
       whole = all.0;
       rest = all.1;
@@ -279,20 +279,20 @@ none_lost old lost new is same few = omega (arith, is, same, few)
 
 -- packets are delivered in turn, with memory for all of them
 pub deliver_all : {hearing : Hearing} → {tests : AllTests}
-    → (config : Config) (peer first : ℕ) (packets : List Packet) (network : WorldState) (old : WorldKept hearing)
+    → (roster : Roster) (peer first : ℕ) (packets : List Packet) (network : WorldState) (old : WorldKept hearing)
     (replies : List RoundReply) (new : WorldKept hearing) → 1 ≤ first
     → ((k : ℕ) (p : Packet) → slice_get packets k ≡ Some p → slice_get old.sent (first + k - 1) ≡ Some p)
     → are_whole replies ≡ true
     → AreSteps tests old (map (λ k. world.Deliver peer k) (numbers_from first (length packets))) replies new
-    → StandsFor old config network
-    → Ran tests config network old (map (λ k. world.Deliver peer k) (numbers_from first (length packets))) replies new
-    (λ x. DeliversAll config tests network peer packets x)
-deliver_all config peer first [] network old [] new low there whole same s =
-    ran_none config network old new same s refl
-deliver_all config peer first [] network old (r ∷ rs) new low there whole h s = absurd h
-deliver_all config peer first (p ∷ ps) network old [] new low there whole h s = absurd h
-deliver_all config peer first (p ∷ ps) network old (r ∷ rs) new low there whole h s =
-    let w = went config network old (world.Deliver peer first) r h.0 h.1 s in
+    → StandsFor old roster network
+    → Ran tests roster network old (map (λ k. world.Deliver peer k) (numbers_from first (length packets))) replies new
+    (λ x. DeliversAll roster tests network peer packets x)
+deliver_all roster peer first [] network old [] new low there whole same s =
+    ran_none roster network old new same s refl
+deliver_all roster peer first [] network old (r ∷ rs) new low there whole h s = absurd h
+deliver_all roster peer first (p ∷ ps) network old [] new low there whole h s = absurd h
+deliver_all roster peer first (p ∷ ps) network old (r ∷ rs) new low there whole h s =
+    let w = went roster network old (world.Deliver peer first) r h.0 h.1 s in
     let all = both_are (is_whole r.reply) (are_whole rs) whole in
     let here : first + 0 - 1 ≡ first - 1 = omega arith in
     let at : slice_get old.sent (first - 1) ≡ Some p =
@@ -302,52 +302,52 @@ deliver_all config peer first (p ∷ ps) network old (r ∷ rs) new low there wh
     let next : first + suc k - 1 ≡ first + 1 + k - 1 = omega arith in
     subst (λ (i : ℕ). slice_get h.0.sent i ≡ Some q) next
     (subst (λ (xs : List Packet). slice_get xs (first + suc k - 1) ≡ Some q)
-    (sym (sent_by config network old
+    (sym (sent_by roster network old
     (world.Deliver peer first) r.reply w.step.lost w.after h.0 s w.stands w.step.ruled))
     (slice_get-append old.sent w.step.ruled.packets (first + suc k - 1) q (there (suc k) q is))) in
     let rest =
-    deliver_all config peer (first + 1) ps (world_ended network (world.Deliver peer first) w.after) h.0 rs new
+    deliver_all roster peer (first + 1) ps (world_ended network (world.Deliver peer first) w.after) h.0 rs new
     (omega (arith, low)) later all.1 h.2 w.stands in
     record {
       after = rest.after;
       run = (w.after, h.0.unsent, w.step, rest.run);
       stands = rest.stands;
-      then = (w.after, w.step.lost, delivers config network old peer first p r.reply h.0 s at all.0 w, rest.then);
+      then = (w.after, w.step.lost, delivers roster network old peer first p r.reply h.0 s at all.0 w, rest.then);
     }
 
 -- ---- no place goes back
 
-places_on : (config : Config) (tests : AllTests) (old : WorldState) (ev : WorldEvent) (reply : Reply) (new : WorldState)
-    → WorldStep config tests old ev reply new → (r w : Endpoint)
+places_on : (roster : Roster) (tests : AllTests) (old : WorldState) (ev : WorldEvent) (reply : Reply) (new : WorldState)
+    → WorldStep roster tests old ev reply new → (r w : Endpoint)
     → NoLess (place_at (machine_of old) r w) (place_at (machine_of new) r w)
-places_on config tests old (world.Call peer call) reply new step r w =
-    ⊎_elim (λ p. (steps_stays config (tests peer) old peer (event.Call call) reply new p).grows.places r w)
-    (λ x. (stays_same config old peer new x.1.after).grows.places r w) step
-places_on config tests old (world.Tick peer now) reply new step r w =
-    ⊎_elim (λ p. (steps_stays config (tests peer) old peer (event.Tick now) reply new p).grows.places r w)
-    (λ x. (stays_same config old peer new x.1.after).grows.places r w) step
-places_on config tests old (world.Deliver peer k) reply new step r w =
-    ⊎_elim (λ p. (steps_stays config (tests peer) old peer (event.Deliver p.0.bytes) reply new p.3).grows.places r w)
-    (λ x. (stays_same config old peer new x.1.after).grows.places r w) step
-places_on config tests old (world.Resume peer reader) reply new step r w =
-    ⊎_elim (λ p. (steps_stays config (tests peer) old peer (event.Resume reader) reply new p).grows.places r w)
-    (λ x. (stays_same config old peer new x.1.after).grows.places r w) step
+places_on roster tests old (world.Call peer call) reply new step r w =
+    ⊎_elim (λ p. (steps_stays roster (tests peer) old peer (event.Call call) reply new p).grows.places r w)
+    (λ x. (stays_same roster old peer new x.1.after).grows.places r w) step
+places_on roster tests old (world.Tick peer now) reply new step r w =
+    ⊎_elim (λ p. (steps_stays roster (tests peer) old peer (event.Tick now) reply new p).grows.places r w)
+    (λ x. (stays_same roster old peer new x.1.after).grows.places r w) step
+places_on roster tests old (world.Deliver peer k) reply new step r w =
+    ⊎_elim (λ p. (steps_stays roster (tests peer) old peer (event.Deliver p.0.bytes) reply new p.3).grows.places r w)
+    (λ x. (stays_same roster old peer new x.1.after).grows.places r w) step
+places_on roster tests old (world.Resume peer reader) reply new step r w =
+    ⊎_elim (λ p. (steps_stays roster (tests peer) old peer (event.Resume reader) reply new p).grows.places r w)
+    (λ x. (stays_same roster old peer new x.1.after).grows.places r w) step
 
-pub places_after : (config : Config) (tests : AllTests) (old : WorldState) (first : ℕ) (events : List WorldEvent)
+pub places_after : (roster : Roster) (tests : AllTests) (old : WorldState) (first : ℕ) (events : List WorldEvent)
     (replies : List Reply) (new : WorldState) (last : ℕ)
-    → RuledRun config tests old first events replies new last → (r w : Endpoint)
+    → RuledRun roster tests old first events replies new last → (r w : Endpoint)
     → NoLess (place_at (machine_of old) r w) (place_at (machine_of new) r w)
-places_after config tests old first [] [] new last run r w =
+places_after roster tests old first [] [] new last run r w =
     subst (λ (x : WorldState). NoLess (place_at (machine_of old) r w) (place_at (machine_of x) r w)) (sym run.0)
     (no_less_same (place_at (machine_of old) r w))
-places_after config tests old first (e ∷ es) (reply ∷ replies) new last run r w =
+places_after roster tests old first (e ∷ es) (reply ∷ replies) new last run r w =
     no_less_on (place_at (machine_of old) r w) (place_at (machine_of run.0) r w) (place_at (machine_of new) r w)
-    (places_on config tests old e reply run.0 run.2.ruled.step r w)
+    (places_on roster tests old e reply run.0 run.2.ruled.step r w)
     (subst (λ (o : Option ℕ). NoLess o (place_at (machine_of new) r w))
     (beside_place run.0 (world_ended old e run.0) (world_beside old e run.0) r w)
-    (places_after config tests (world_ended old e run.0) run.1 es replies new last run.3 r w))
-places_after config tests old first [] (reply ∷ replies) new last run r w = absurd run
-places_after config tests old first (e ∷ es) [] new last run r w = absurd run
+    (places_after roster tests (world_ended old e run.0) run.1 es replies new last run.3 r w))
+places_after roster tests old first [] (reply ∷ replies) new last run r w = absurd run
+places_after roster tests old first (e ∷ es) [] new last run r w = absurd run
 
 -- ---- packets that were sent at a step
 

@@ -6,7 +6,7 @@ use Rattle.std.proofs.lemmas.List.{length-map, map-set, set-get_or}
 use Rattle.std.proofs.lemmas.Option.{slice_get-get_or}
 use Rattle.dds_base.specs.declared.code.Code.{Code}
 use Rattle.dds_base.specs.declared.code.Code.TheVariants.{BadParameter}
-use Rattle.dds_base.specs.declared.config.Config.{Config}
+use Rattle.dds_protocol.specs.Roster.{Roster, roster_of}
 use Rattle.dds_base.specs.declared.entity.Entity.{Entity}
 use Rattle.dds_base.specs.declared.key.Key.{Key}
 use Rattle.dds_base.proofs.OwnerLaws.{eqb-refl}
@@ -96,11 +96,11 @@ seen_at f (c ∷ cs) (suc i) core d low here = seen_at f cs i core d (omega (ari
 
 module _ {F L : Type 0} (notices : L → List Notice) (capacity : L → ℕ) (becomes : L → Notice → L → Type 0) where
   -- a state of the network is one of its peer
-  core_stands : (given : ℕ → ByEntity L) (held : Held F L) (i : ℕ) (core : CoreKept F L) (config : Config) (network : WorldState)
+  core_stands : (given : ℕ → ByEntity L) (held : Held F L) (i : ℕ) (core : CoreKept F L) (roster : Roster) (network : WorldState)
       → i < length held.cores → core ≡ get_or held.cores i core
-      → StandsFor (kept_of notices capacity becomes given held) config network
-      → CoreStands notices capacity becomes (given (suc i)) core config (get_or network.peers i no_peer)
-  core_stands given held i core config network low here s =
+      → StandsFor (kept_of notices capacity becomes given held) roster network
+      → CoreStands notices capacity becomes (given (suc i)) core roster (get_or network.peers i no_peer)
+  core_stands given held i core roster network low here s =
       let at : slice_get held.cores i ≡ Some core =
       slice_get-get_or held.cores i core low ∙ ap (λ (c : CoreKept F L). Some c) (sym here) in
       record {
@@ -122,12 +122,12 @@ module _ {F L : Type 0} (notices : L → List Notice) (capacity : L → ℕ) (be
       → StepsAt tests core.filtered.peer count
       (λ places. SlotsStandFor notices capacity becomes given core.listeners places) ev output after.filtered.peer
       (λ places. SlotsStandFor notices capacity becomes given after.listeners places)
-  core_steps given tests core ev output after count counted h config peer s filters told sound =
-      let before : CoreStands notices capacity becomes given core config peer = record {
+  core_steps given tests core ev output after count counted h roster peer s filters told sound =
+      let before : CoreStands notices capacity becomes given core roster peer = record {
         stands = record { stands = s; filters = filters ∙ counted };
         listeners = told;
       } in
-      let r = h.step given config peer before sound in (
+      let r = h.step given roster peer before sound in (
         r.0,
         r.1,
         r.2,
@@ -226,14 +226,14 @@ module _ {F L : Type 0} (notices : L → List Notice) (capacity : L → ℕ) (be
       count_set cs qs i after p (omega (arith, count)) is (λ k. each (suc k)) j
 
   -- the network stands for the state with that peer, which is alike
-  stands_with : (given later : ℕ → ByEntity L) (old : Held F L) (i : ℕ) (after : CoreKept F L) (new : Held F L) (config : Config)
+  stands_with : (given later : ℕ → ByEntity L) (old : Held F L) (i : ℕ) (after : CoreKept F L) (new : Held F L) (roster : Roster)
       (network : WorldState) (p : Peer) → new ≡ record old { cores = set old.cores i after }
-      → StandsFor (kept_of notices capacity becomes given old) config network → CoreStands notices capacity becomes (later (suc i)) after config p
+      → StandsFor (kept_of notices capacity becomes given old) roster network → CoreStands notices capacity becomes (later (suc i)) after roster p
       → ((j : ℕ) → (j ≡ i → ⊥) → later (suc j) ≡ given (suc j))
-      → IsSound config p
+      → IsSound roster p
       → SameBeside network (with_peer network i p network.sent)
-      → StandsFor (kept_of notices capacity becomes later new) config (with_peer network i p network.sent)
-  stands_with given later old i after new config network p same s stands others known beside =
+      → StandsFor (kept_of notices capacity becomes later new) roster (with_peer network i p network.sent)
+  stands_with given later old i after new roster network p same s stands others known beside =
       let f : CoreKept F L → PeerKept = λ c. c.filtered.peer in
       let g : CoreKept F L → ℕ = λ c. length c.filtered.filters in
       let k : CoreKept F L → Slotted L = λ c. c.listeners in
@@ -243,7 +243,7 @@ module _ {F L : Type 0} (notices : L → List Notice) (capacity : L → ℕ) (be
       let counted : length network.peers ≡ length old.cores = s.count ∙ length-map old.cores f in
       let few = s.few in
       peer_stands (heard notices capacity becomes given).stands (heard notices capacity becomes later).stands
-      (kept_of notices capacity becomes given old) (kept_of notices capacity becomes later new) config network i
+      (kept_of notices capacity becomes given old) (kept_of notices capacity becomes later new) roster network i
       after.filtered.peer
       (k after) p network.sent s
       (ap (λ (cs : List (CoreKept F L)). map f cs) cores ∙ map-set f old.cores i after)
@@ -254,8 +254,8 @@ module _ {F L : Type 0} (notices : L → List Notice) (capacity : L → ℕ) (be
       ∙ ap (λ (cs : List (CoreKept F L)). get_or (map g cs) j 0) (sym cores))
       stands.stands.stands stands.listeners known
       (s.sent ∙ sym sent) (subst (λ ps. AreMessages ps) (sym sent) s.messages) (omega (arith, few, unsent))
-      (sound_beside config network (with_peer network i p network.sent) beside s.sound)
-      (used_beside config network (with_peer network i p network.sent) beside s.used)
+      (sound_beside roster network (with_peer network i p network.sent) beside s.sound)
+      (used_beside roster network (with_peer network i p network.sent) beside s.used)
       (bounded_beside network (with_peer network i p network.sent) beside s.bounded)
 
   -- a filter more
@@ -267,16 +267,16 @@ module _ {F L : Type 0} (notices : L → List Notice) (capacity : L → ℕ) (be
       let h : CoreKept F L → List F = λ c. c.filtered.filters in
       let next : suc i ≡ peer = omega (arith, is) in
       let own = seen_at h old.cores i core [] low here in
-      let whole : (given : ℕ → ByEntity L) (config : Config) (network : WorldState)
-      → StandsFor (kept_of notices capacity becomes given old) config network
-      → StandsFor (kept_of notices capacity becomes given new) config (world_with_filter network (suc i)) =
-      λ given config network s.
-      let r = a.adds (given (suc i)) config (get_or network.peers i no_peer)
-      (core_stands given old i core config network low here s) in
+      let whole : (given : ℕ → ByEntity L) (roster : Roster) (network : WorldState)
+      → StandsFor (kept_of notices capacity becomes given old) roster network
+      → StandsFor (kept_of notices capacity becomes given new) roster (world_with_filter network (suc i)) =
+      λ given roster network s.
+      let r = a.adds (given (suc i)) roster (get_or network.peers i no_peer)
+      (core_stands given old i core roster network low here s) in
       let known =
       r.3 (s.known i core.filtered.peer
       (core_kept notices capacity becomes given old old i (length old.cores) core refl here refl low)) in
-      stands_with given given old i after new config network
+      stands_with given given old i after new roster network
       (peer_with_filter (get_or network.peers i no_peer)) same s r.2 (λ j other. refl) known
       (filter_beside network (suc i)) in
       let here_is : Adds notices capacity becomes old (suc i) filter number new = record {
@@ -287,17 +287,18 @@ module _ {F L : Type 0} (notices : L → List Notice) (capacity : L → ℕ) (be
         sent = ap (λ (x : Held F L). x.sent) same;
         unsent = ap (λ (x : Held F L). x.unsent) same;
         adds = λ given config m stands.
+            let roster = roster_of config in
             let network = stands.0 in
             let s = stands.2 in
-            let r = a.adds (given (suc i)) config (get_or network.peers i no_peer)
-            (core_stands given old i core config network low here s) in (
+            let r = a.adds (given (suc i)) roster (get_or network.peers i no_peer)
+            (core_stands given old i core roster network low here s) in (
               subst (λ (x : Machine). filter_refusal (part_at x (suc i)).dds.watch ≡ None) stands.1
                   (ap (λ (q : Part). filter_refusal q.dds.watch) (parts_at network (suc i)) ∙ r.0),
               r.1 ∙ ap (λ (fs : List F). length fs + 1) (sym own),
               (
                 world_with_filter network (suc i),
                 machine_filtered network (suc i) ∙ ap (λ (x : Machine). machine_with_filter x (suc i)) stands.1,
-                whole given config network s,
+                whole given roster network s,
               ),
             );
         rules = whole;
@@ -315,8 +316,8 @@ module _ {F L : Type 0} (notices : L → List Notice) (capacity : L → ℕ) (be
         (omega arith, omega (arith, low)),
         λ given config m stands. subst (λ (x : Machine). Refuses (filter_refusal (part_at x (suc i)).dds.watch) code) stands.1
             (subst (λ (q : Part). Refuses (filter_refusal q.dds.watch) code) (sym (parts_at stands.0 (suc i)))
-            (refused (given (suc i)) config (get_or stands.0.peers i no_peer)
-            (core_stands given old i core config stands.0 low here stands.2))),
+            (refused (given (suc i)) (roster_of config) (get_or stands.0.peers i no_peer)
+            (core_stands given old i core (roster_of config) stands.0 low here stands.2))),
       ))
 
   -- another listener, or none
@@ -338,19 +339,19 @@ module _ {F L : Type 0} (notices : L → List Notice) (capacity : L → ℕ) (be
       let others : (given : ℕ → ByEntity L) (j : ℕ) → (j ≡ i → ⊥) → later given (suc j) ≡ given (suc j) =
       λ given j other. ap (λ (b : Bool). if b then with_entity (given (suc j)) entity listener else given (suc j))
       (ne_eqb (suc j) (suc i) (λ same. other (omega (arith, same)))) in
-      let whole : (given : ℕ → ByEntity L) (config : Config) (network : WorldState)
-      → StandsFor (kept_of notices capacity becomes given old) config network
-      → StandsFor (kept_of notices capacity becomes (later given) new) config
+      let whole : (given : ℕ → ByEntity L) (roster : Roster) (network : WorldState)
+      → StandsFor (kept_of notices capacity becomes given old) roster network
+      → StandsFor (kept_of notices capacity becomes (later given) new) roster
       (world_with_place network (suc i) entity place) =
-      λ given config network s.
-      let r = a.sets (given (suc i)) config (get_or network.peers i no_peer)
-      (core_stands given old i core config network low here s) in
+      λ given roster network s.
+      let r = a.sets (given (suc i)) roster (get_or network.peers i no_peer)
+      (core_stands given old i core roster network low here s) in
       let known =
       r.3 (s.known i core.filtered.peer
       (core_kept notices capacity becomes given old old i (length old.cores) core refl here refl low)) in
-      stands_with given (later given) old i after new config network
+      stands_with given (later given) old i after new roster network
       (peer_with_place (get_or network.peers i no_peer) entity place) same s
-      (subst (λ (g : ByEntity L). CoreStands notices capacity becomes g after config
+      (subst (λ (g : ByEntity L). CoreStands notices capacity becomes g after roster
       (peer_with_place (get_or network.peers i no_peer) entity place)) (sym (own given)) r.2) (others given) known
       (place_beside network (suc i) entity place) in
       let here_is : Sets notices capacity becomes old (suc i) entity mask listener handed new = record {
@@ -359,10 +360,11 @@ module _ {F L : Type 0} (notices : L → List Notice) (capacity : L → ℕ) (be
         sent = ap (λ (x : Held F L). x.sent) same;
         unsent = ap (λ (x : Held F L). x.unsent) same;
         sets = λ given config m stands.
+            let roster = roster_of config in
             let network = stands.0 in
             let s = stands.2 in
-            let r = a.sets (given (suc i)) config (get_or network.peers i no_peer)
-            (core_stands given old i core config network low here s) in (
+            let r = a.sets (given (suc i)) roster (get_or network.peers i no_peer)
+            (core_stands given old i core roster network low here s) in (
               subst (λ (x : Machine). listener_refusal notices (part_at x (suc i)).dds.listeners entity listener
                   ≡ None) stands.1
                   (ap (λ (q : Part). listener_refusal notices q.dds.listeners entity listener)
@@ -375,7 +377,7 @@ module _ {F L : Type 0} (notices : L → List Notice) (capacity : L → ℕ) (be
                 world_with_place network (suc i) entity place,
                 machine_placed network (suc i) entity place
                     ∙ ap (λ (x : Machine). machine_with_place x (suc i) entity place) stands.1,
-                whole given config network s,
+                whole given roster network s,
               ),
             );
         rules = whole;
@@ -395,8 +397,8 @@ module _ {F L : Type 0} (notices : L → List Notice) (capacity : L → ℕ) (be
             listener_refusal notices (part_at x (suc i)).dds.listeners entity listener ≡ Some code) stands.1
             (ap (λ (q : Part). listener_refusal notices q.dds.listeners entity listener)
             (parts_at stands.0 (suc i))
-            ∙ refused (given (suc i)) config (get_or stands.0.peers i no_peer)
-            (core_stands given old i core config stands.0 low here stands.2)),
+            ∙ refused (given (suc i)) (roster_of config) (get_or stands.0.peers i no_peer)
+            (core_stands given old i core (roster_of config) stands.0 low here stands.2)),
       ))
 
   -- an index below the number of peers is one of those that are kept

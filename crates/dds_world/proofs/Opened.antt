@@ -17,6 +17,7 @@ use Rattle.dds_protocol.specs.declared.event.Packet.{Packet}
 use Rattle.dds_machine.specs.Numbered.{has_element, numbered}
 use Rattle.dds_protocol.specs.Opening.{opening_peers, opening_world}
 use Rattle.dds_protocol.specs.Peer.{no_peer}
+use Rattle.dds_protocol.specs.Roster.{roster_of}
 use Rattle.dds_protocol.proofs.Bounded.{opened_bounded}
 use Rattle.dds_protocol.proofs.CountsOpened.{opens_used}
 use Rattle.dds_protocol.proofs.Composed.{parts_at}
@@ -132,7 +133,7 @@ at_end (z ∷ zs) y (suc j) x at = ⊎_elim (λ e. inl e) (λ e. inr (ap suc e.0
 pub opens_more : {F L : Type 0} (notices : L → List Notice) (capacity : L → ℕ) (becomes : L → Notice → L → Type 0)
     (config : Config) (i n : ℕ)
     (old new : List (CoreKept F L)) (core : CoreKept F L) → n ≡ i + 1
-    → OpensFirst notices capacity becomes config i old → CoreStands notices capacity becomes (no_listeners (opening_peer config n).part) core config (opening_peer config n)
+    → OpensFirst notices capacity becomes config i old → CoreStands notices capacity becomes (no_listeners (opening_peer config n).part) core (roster_of config) (opening_peer config n)
     → core.filtered.filters ≡ []
     → check_refusal config.peers ≡ None → new ≡ old ++ core ∷ [] → OpensFirst notices capacity becomes config (i + 1) new
 opens_more {F} {L} notices capacity becomes config i n old new core is so stands none taken items =
@@ -143,15 +144,15 @@ opens_more {F} {L} notices capacity becomes config i n old new core is so stands
     → (slice_get old j ≡ Some k) ⊎ ((j ≡ length old) × (core ≡ k)) =
     λ j k at. at_end old core j k (subst (λ (ks : List (CoreKept F L)). slice_get ks j ≡ Some k) items at) in
     let each : (j : ℕ) (k : CoreKept F L) → slice_get new j ≡ Some k
-    → CoreStands notices capacity becomes (no_listeners (opening_peer config (j + 1)).part) k config
+    → CoreStands notices capacity becomes (no_listeners (opening_peer config (j + 1)).part) k (roster_of config)
     (opening_peer config (j + 1)) = λ j k at.
     ⊎_elim (λ o. so.each j k o)
     (λ last.
     let j_is = last.0 in
     let same : n ≡ j + 1 = omega (arith, is, j_is, counted) in
-    subst (λ (m : ℕ). CoreStands notices capacity becomes (no_listeners (opening_peer config m).part) k config
+    subst (λ (m : ℕ). CoreStands notices capacity becomes (no_listeners (opening_peer config m).part) k (roster_of config)
     (opening_peer config m)) same
-    (subst (λ (x : CoreKept F L). CoreStands notices capacity becomes (no_listeners (opening_peer config n).part) x config
+    (subst (λ (x : CoreKept F L). CoreStands notices capacity becomes (no_listeners (opening_peer config n).part) x (roster_of config)
     (opening_peer config n)) last.1 stands))
     (before j k at) in
     record {
@@ -205,8 +206,8 @@ no_filters_at notices capacity becomes config count held all (suc i) = none_at h
 pub opened : {F L : Type 0} (notices : L → List Notice) (capacity : L → ℕ) (becomes : L → Notice → L → Type 0)
     (config : Config) (held : Held F L)
     → OpensFirst notices capacity becomes config (length config.peers) held.cores
-    → held.sent ≡ [] → held.unsent ≡ 0 → StandsFor (kept_of notices capacity becomes (none_given (opening config)) held) config
-    (opening_world config)
+    → held.sent ≡ [] → held.unsent ≡ 0 → StandsFor (kept_of notices capacity becomes (none_given (opening config)) held)
+    (roster_of config) (opening_world config)
 opened {F} {L} notices capacity becomes config held all none quiet =
     let f : CoreKept F L → PeerKept = λ c. c.filtered.peer in
     let g : CoreKept F L → Slotted L = λ c. c.listeners in
@@ -217,10 +218,10 @@ opened {F} {L} notices capacity becomes config held all none quiet =
       each = λ i k at.
           let next : i + 1 ≡ suc i = omega arith in
           let own = seen_of f held.cores i k at in
-          subst (λ (x : PeerKept). PeerStandsFor x config (opening_peer config (suc i))) own.2
-          (subst (λ (n : ℕ). PeerStandsFor own.0.filtered.peer config (opening_peer config n)) next
+          subst (λ (x : PeerKept). PeerStandsFor x (roster_of config) (opening_peer config (suc i))) own.2
+          (subst (λ (n : ℕ). PeerStandsFor own.0.filtered.peer (roster_of config) (opening_peer config n)) next
           (all.each i own.0 own.1).stands.stands);
-      known = λ i k at. opens_known config i (get_or (opening_peers config.peers 1 config.peers) i no_peer).number;
+      known = λ i k at. opens_known config (roster_of config) i (get_or (opening_peers config.peers 1 config.peers) i no_peer).number;
       filters = λ i. opens_no_filters_at config i ∙ sym (none_counted held.cores all.none i);
       listened = peers_count config.peers 1 config.peers ∙ (sym all.counted ∙ sym (length-map held.cores g));
       listeners = λ i k at.

@@ -1,6 +1,6 @@
 -- A network in which the peer of one index is another one.
 use Rattle.std.proofs.Common.{◌≡◌, ℕ, zero, suc, ◌-◌, ◌^◌, ◌<◌, ◌≤◌, List, [], ◌∷◌, Some, length, set, get_or, slice_get, refl, ap, sym, ◌∙◌, subst, arith, length-set, get_or-set_same}
-use Rattle.dds_base.specs.declared.config.Config.{Config}
+use Rattle.dds_protocol.specs.Roster.{Roster}
 use Rattle.dds_notices.specs.Listeners.{Places}
 use Rattle.dds_protocol.specs.declared.event.Packet.{Packet}
 use Rattle.dds_machine.specs.declared.event.WorldEvent.{WorldEvent}
@@ -58,16 +58,16 @@ ended_at network whole i stepped sent is low =
 -- what the network stands for with it, where the others are heard as before
 pub peer_stands : {K : Type 0} (before later : ℕ → K → Places → Type 0)
     (kept : WorldKept (record { Kept = K; stands = before })) (new : WorldKept (record { Kept = K; stands = later }))
-    (config : Config) (network : WorldState) (i : ℕ) (after : PeerKept) (left : K) (p : Peer) (sent : List Packet)
-    → StandsFor kept config network → new.peers ≡ set kept.peers i after → new.listeners ≡ set kept.listeners i left
+    (roster : Roster) (network : WorldState) (i : ℕ) (after : PeerKept) (left : K) (p : Peer) (sent : List Packet)
+    → StandsFor kept roster network → new.peers ≡ set kept.peers i after → new.listeners ≡ set kept.listeners i left
     → ((j : ℕ) (k : K) (places : Places) → (j ≡ i → ⊥) → before (suc j) k places → later (suc j) k places)
     → ((j : ℕ) → (get_or (set network.peers i p) j no_peer).part.dds.watch.filters ≡ get_or new.filters j 0)
-    → CoreStandsFor after config p → later (suc i) left p.part.dds.listeners → IsSound config p
+    → CoreStandsFor after roster p → later (suc i) left p.part.dds.listeners → IsSound roster p
     → sent ≡ new.sent → AreMessages new.sent → new.unsent ≤ 2 ^ 64 - 1
-    → Sound config (with_peer network i p sent) → HasUsedCounts config (with_peer network i p sent)
+    → Sound roster (with_peer network i p sent) → HasUsedCounts roster (with_peer network i p sent)
     → IsBounded (machine_of (with_peer network i p sent))
-    → StandsFor new config (with_peer network i p sent)
-peer_stands {K} before later kept new config network i after left p sent s peers listeners others filters stands told
+    → StandsFor new roster (with_peer network i p sent)
+peer_stands {K} before later kept new roster network i after left p sent s peers listeners others filters stands told
     known is messages few sound used bounded =
     let c1 = length-set network.peers i p in
     let c2 = length-set kept.peers i after in
@@ -79,11 +79,11 @@ peer_stands {K} before later kept new config network i after left p sent s peers
     record {
       count = omega (arith, c1, c2, c3, count);
       each =
-          λ j k at. each_set (λ (x : PeerKept) (q : Peer). CoreStandsFor x config q) kept.peers network.peers i after p
+          λ j k at. each_set (λ (x : PeerKept) (q : Peer). CoreStandsFor x roster q) kept.peers network.peers i after p
           no_peer s.count s.each stands j k
           (subst (λ (ks : List PeerKept). slice_get ks j ≡ Some k) peers at);
       known =
-          λ j k at. each_set (λ (x : PeerKept) (q : Peer). IsSound config q) kept.peers network.peers i after p no_peer
+          λ j k at. each_set (λ (x : PeerKept) (q : Peer). IsSound roster q) kept.peers network.peers i after p no_peer
           s.count s.known known j k
           (subst (λ (ks : List PeerKept). slice_get ks j ≡ Some k) peers at);
       filters = filters;

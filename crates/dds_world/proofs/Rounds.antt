@@ -6,7 +6,7 @@ use Rattle.std.proofs.lemmas.List.{append-nil}
 use Rattle.std.proofs.lemmas.Option.{same_Some, slice_get_read, slice_get_within}
 use Rattle.dds_base.specs.declared.code.Code.{Code}
 use Rattle.dds_base.specs.declared.code.Code.TheVariants.{BadParameter, Memory}
-use Rattle.dds_base.specs.declared.config.Config.{Config}
+use Rattle.dds_protocol.specs.Roster.{Roster}
 use Rattle.dds_base.specs.Refusal.{Refuses}
 use Rattle.dds_base.specs.Kept.{numbers_from}
 use Rattle.rtps_wire.specs.declared.seek.Sought.{Sought}
@@ -45,59 +45,59 @@ grows_same old new same = ([], same ∙ sym (append-nil old))
 grows_on : (a b c : List Packet) → Grows a b → Grows b c → Grows a c
 grows_on a b c f g = (f.0 ++ g.0, g.1 ∙ (ap (λ (ps : List Packet). ps ++ g.0) f.1 ∙ append_assoc a f.0 g.0))
 
-world_grows : (config : Config) (tests : AllTests) (old : WorldState) (ev : WorldEvent) (reply : Reply)
-    (new : WorldState) → WorldStep config tests old ev reply new → Grows old.sent new.sent
-world_grows config tests old (world.Call peer call) reply new step =
+world_grows : (roster : Roster) (tests : AllTests) (old : WorldState) (ev : WorldEvent) (reply : Reply)
+    (new : WorldState) → WorldStep roster tests old ev reply new → Grows old.sent new.sent
+world_grows roster tests old (world.Call peer call) reply new step =
     ⊎_elim (λ p. (p.posted, ap (λ (w : WorldState). w.sent) p.changed))
     (λ r. grows_same old.sent new.sent (ap (λ (w : WorldState). w.sent) r.1.after)) step
-world_grows config tests old (world.Tick peer now) reply new step =
+world_grows roster tests old (world.Tick peer now) reply new step =
     ⊎_elim (λ p. (p.posted, ap (λ (w : WorldState). w.sent) p.changed))
     (λ r. grows_same old.sent new.sent (ap (λ (w : WorldState). w.sent) r.1.after)) step
-world_grows config tests old (world.Deliver peer k) reply new step =
+world_grows roster tests old (world.Deliver peer k) reply new step =
     ⊎_elim (λ p. (p.3.posted, ap (λ (w : WorldState). w.sent) p.3.changed))
     (λ r. grows_same old.sent new.sent (ap (λ (w : WorldState). w.sent) r.1.after)) step
-world_grows config tests old (world.Resume peer reader) reply new step =
+world_grows roster tests old (world.Resume peer reader) reply new step =
     ⊎_elim (λ p. (p.posted, ap (λ (w : WorldState). w.sent) p.changed))
     (λ r. grows_same old.sent new.sent (ap (λ (w : WorldState). w.sent) r.1.after)) step
 
-record GoesOn {hearing : Hearing} (config : Config) (old new : WorldKept hearing) : Type 0 where
+record GoesOn {hearing : Hearing} (roster : Roster) (old new : WorldKept hearing) : Type 0 where
   after : WorldState
-  stands : StandsFor new config after
+  stands : StandsFor new roster after
   grows : Grows old.sent new.sent
 
-step_on : {hearing : Hearing} → (tests : AllTests) → (config : Config) (network : WorldState)
+step_on : {hearing : Hearing} → (tests : AllTests) → (roster : Roster) (network : WorldState)
     (old : WorldKept hearing) (ev : WorldEvent)
-    (reply : Reply) (new : WorldKept hearing) → KeepsRules tests old ev reply new → StandsFor old config network
-    → GoesOn config old new
-step_on tests config network old ev reply new steps s =
-    let t = steps config network s in
-    let g = world_grows config tests network ev reply t.0 t.1.ruled.step in
+    (reply : Reply) (new : WorldKept hearing) → KeepsRules tests old ev reply new → StandsFor old roster network
+    → GoesOn roster old new
+step_on tests roster network old ev reply new steps s =
+    let t = steps roster network s in
+    let g = world_grows roster tests network ev reply t.0 t.1.ruled.step in
     record {
       after = world_ended network ev t.0;
       stands = t.2;
       grows = (g.0, sym t.2.sent ∙ (g.1 ∙ ap (λ (ps : List Packet). ps ++ g.0) s.sent));
     }
 
-steps_on : {hearing : Hearing} → (tests : AllTests) → (config : Config) (network : WorldState)
+steps_on : {hearing : Hearing} → (tests : AllTests) → (roster : Roster) (network : WorldState)
     (old : WorldKept hearing) (events : List WorldEvent)
-    (replies : List RoundReply) (new : WorldKept hearing) → AreSteps tests old events replies new → StandsFor old config network
-    → GoesOn config old new
-steps_on {hearing} tests config network old [] [] new same s = record {
+    (replies : List RoundReply) (new : WorldKept hearing) → AreSteps tests old events replies new → StandsFor old roster network
+    → GoesOn roster old new
+steps_on {hearing} tests roster network old [] [] new same s = record {
   after = network;
-  stands = subst (λ (k : WorldKept hearing). StandsFor k config network) (sym same) s;
+  stands = subst (λ (k : WorldKept hearing). StandsFor k roster network) (sym same) s;
   grows = grows_same old.sent new.sent (ap (λ (k : WorldKept hearing). k.sent) same);
 }
-steps_on tests config network old (e ∷ es) (r ∷ rs) new h s =
-    let first = step_on tests config network old e r.reply h.0 h.1.rules s in
-    let rest = steps_on tests config first.after h.0 es rs new h.2 first.stands in
+steps_on tests roster network old (e ∷ es) (r ∷ rs) new h s =
+    let first = step_on tests roster network old e r.reply h.0 h.1.rules s in
+    let rest = steps_on tests roster first.after h.0 es rs new h.2 first.stands in
     record {
       after = rest.after;
       stands = rest.stands;
       grows = grows_on old.sent h.0.sent new.sent first.grows
           rest.grows;
     }
-steps_on tests config network old [] (r ∷ rs) new h s = absurd h
-steps_on tests config network old (e ∷ es) [] new h s = absurd h
+steps_on tests roster network old [] (r ∷ rs) new h s = absurd h
+steps_on tests roster network old (e ∷ es) [] new h s = absurd h
 
 get_back : (xs ys : List Packet) (i : ℕ) (p : Packet) → i < length xs → slice_get (xs ++ ys) i ≡ Some p
     → slice_get xs i ≡ Some p
@@ -231,146 +231,146 @@ answered_more {tests} old peer from index count packet replies mid reply new is 
 
 -- ---- the stages are those of a round
 
-acknack_is : (config : Config) (network : WorldState) (m : Matched) → Knows config network m
-    → sought.AckNack m.pair.reader m.pair.writer ≡ acknack_of config m.writer m.reader
-acknack_is config network m k = let r = k.reader in let w = k.writer in cc
+acknack_is : (roster : Roster) (network : WorldState) (m : Matched) → Knows roster network m
+    → sought.AckNack m.pair.reader m.pair.writer ≡ acknack_of roster m.writer m.reader
+acknack_is roster network m k = let r = k.reader in let w = k.writer in cc
 
-heartbeat_is : (config : Config) (network : WorldState) (m : Matched) → Knows config network m
-    → sought.Heartbeat m.pair.writer ≡ heartbeat_of config m.writer
-heartbeat_is config network m k = let w = k.writer in cc
+heartbeat_is : (roster : Roster) (network : WorldState) (m : Matched) → Knows roster network m
+    → sought.Heartbeat m.pair.writer ≡ heartbeat_of roster m.writer
+heartbeat_is roster network m k = let w = k.writer in cc
 
 -- What is so of what was sent before, where there is no such packet, and of what was sent in the end, where the first
 -- one is delivered and it goes on so, is so of the stage. What is looked for is this submessage.
 stage_in_round : {hearing : Hearing} → {tests : AllTests}
-    → (config : Config) (network : WorldState) {wanted known : Sought} (from peer : ℕ)
+    → (roster : Roster) (network : WorldState) {wanted known : Sought} (from peer : ℕ)
     (Next : WorldKept hearing → List WorldEvent → List RoundReply → WorldKept hearing → Type 0) (old : WorldKept hearing)
     (events : List WorldEvent) (replies : List RoundReply) (new : WorldKept hearing)
-    (After : List Packet → List WorldEvent → List RoundReply → Type 0) → wanted ≡ known → StandsFor old config network
+    (After : List Packet → List WorldEvent → List RoundReply → Type 0) → wanted ≡ known → StandsFor old roster network
     → BySteps tests Next new
     → (HasNone (IsTo peer known) old.sent from (length old.sent) → After old.sent [] [])
     → ((k : ℕ) (reply : RoundReply) (mid : WorldKept hearing) (later : List WorldEvent) (rest : List RoundReply)
-    → IsFirst (IsTo peer known) new.sent from (length old.sent) k → GoesOn config old mid
+    → IsFirst (IsTo peer known) new.sent from (length old.sent) k → GoesOn roster old mid
     → reply.sent ≡ length mid.sent → Next mid later rest new
     → After new.sent (world.Deliver peer k ∷ later) (reply ∷ rest))
     → Stage tests (IsTo peer wanted) from peer Next old events replies new → After new.sent events replies
-stage_in_round {tests} config network {wanted} from peer Next old events replies new After is s next none goes h =
+stage_in_round {tests} roster network {wanted} from peer Next old events replies new After is s next none goes h =
     stage_is (IsTo peer wanted) from peer Next old events replies new (λ es rs k. After k.sent es rs)
     (λ n. none (subst (λ (x : Sought). HasNone (IsTo peer x) old.sent from (length old.sent)) is n))
     (λ k reply mid later rest first step on.
     let ev : WorldEvent = world.Deliver peer k in
     let high : length old.sent ≤ length old.sent = omega arith in
     let steps : AreSteps tests old (ev ∷ later) (reply ∷ rest) new = (mid, step, next mid later rest on) in
-    let grows = (steps_on tests config network old (ev ∷ later) (reply ∷ rest) new steps s).grows in
+    let grows = (steps_on tests roster network old (ev ∷ later) (reply ∷ rest) new steps s).grows in
     let there = first_on (IsTo peer wanted) old.sent new.sent from (length old.sent) k grows high first in
     goes k reply mid later rest
     (subst (λ (x : Sought). IsFirst (IsTo peer x) new.sent from (length old.sent) k) is there)
-    (step_on tests config network old ev reply.reply mid step.rules s) step.sent on) h
+    (step_on tests roster network old ev reply.reply mid step.rules s) step.sent on) h
 
 -- the stage after the HEARTBEAT is that of a round
 after_heartbeat : {hearing : Hearing} → {tests : AllTests}
-    → (config : Config) (network known : WorldState) (m : Matched) (from : ℕ) (old : WorldKept hearing)
-    (events : List WorldEvent) (replies : List RoundReply) (new : WorldKept hearing) → Knows config known m
-    → StandsFor old config network
+    → (roster : Roster) (network known : WorldState) (m : Matched) (from : ℕ) (old : WorldKept hearing)
+    (events : List WorldEvent) (replies : List RoundReply) (new : WorldKept hearing) → Knows roster known m
+    → StandsFor old roster network
     → Acknowledging tests m from old events replies new
-    → AfterHeartbeat config m.writer m.reader new.sent from (length old.sent) events replies
-after_heartbeat {tests} config network known m from old events replies new k s h =
-    stage_in_round config network from m.writer.peer (Answering tests m.reader.peer (length old.sent)) old events replies
+    → AfterHeartbeat roster m.writer m.reader new.sent from (length old.sent) events replies
+after_heartbeat {tests} roster network known m from old events replies new k s h =
+    stage_in_round roster network from m.writer.peer (Answering tests m.reader.peer (length old.sent)) old events replies
     new
-    (λ ps es rs. AfterHeartbeat config m.writer m.reader ps from (length old.sent) es rs)
-    (acknack_is config known m k) s (λ mid es rs a. a.1) (λ none. none)
+    (λ ps es rs. AfterHeartbeat roster m.writer m.reader ps from (length old.sent) es rs)
+    (acknack_is roster known m k) s (λ mid es rs a. a.1) (λ none. none)
     (λ number reply mid later rest first on sent a.
     (refl, first, subst (λ (n : ℕ). later ≡ answers_at m.reader.peer (length old.sent) n) (sym sent) a.0)) h
 
 -- the stage after the tick is that of a round
-after_tick : {hearing : Hearing} → {tests : AllTests} → (config : Config) (network known : WorldState) (m : Matched)
+after_tick : {hearing : Hearing} → {tests : AllTests} → (roster : Roster) (network known : WorldState) (m : Matched)
     (from : ℕ)
-    (old : WorldKept hearing) (events : List WorldEvent) (replies : List RoundReply) (new : WorldKept hearing) → Knows config known m
-    → StandsFor old config network
+    (old : WorldKept hearing) (events : List WorldEvent) (replies : List RoundReply) (new : WorldKept hearing) → Knows roster known m
+    → StandsFor old roster network
     → Beating tests m from old events replies new
-    → AfterTick config m.writer m.reader new.sent from (length old.sent) events replies
-after_tick {tests} config network known m from old events replies new k s h =
-    stage_in_round config network from m.reader.peer (Acknowledging tests m (length old.sent)) old events replies new
-    (λ ps es rs. AfterTick config m.writer m.reader ps from (length old.sent) es rs) (heartbeat_is config known m k) s
+    → AfterTick roster m.writer m.reader new.sent from (length old.sent) events replies
+after_tick {tests} roster network known m from old events replies new k s h =
+    stage_in_round roster network from m.reader.peer (Acknowledging tests m (length old.sent)) old events replies new
+    (λ ps es rs. AfterTick roster m.writer m.reader ps from (length old.sent) es rs) (heartbeat_is roster known m k) s
     (λ mid es rs a. acks_steps m (length old.sent) mid es rs new a) (λ none. none)
     (λ number reply mid later rest first on sent a. (
       refl,
       first,
-      subst (λ (n : ℕ). AfterHeartbeat config m.writer m.reader new.sent (length old.sent) n later rest) (sym sent)
-          (after_heartbeat config on.after known m (length old.sent) mid later rest new k on.stands a),
+      subst (λ (n : ℕ). AfterHeartbeat roster m.writer m.reader new.sent (length old.sent) n later rest) (sym sent)
+          (after_heartbeat roster on.after known m (length old.sent) mid later rest new k on.stands a),
     )) h
 
 pub round_is : {hearing : Hearing} → {tests : AllTests}
     → (old : WorldKept hearing) (m : Matched) (ticked : RoundReply) (mid : WorldKept hearing) (events : List WorldEvent)
     (replies : List RoundReply) (new : WorldKept hearing) → IsKnown old m
     → IsStep tests old (world.Tick m.writer.peer m.moment) ticked mid
-    → Beating tests m (length old.sent) mid events replies new → (config : Config) (network : WorldState)
-    → StandsFor old config network
-    → IsRound config network m.writer m.reader new.sent (world.Tick m.writer.peer m.moment ∷ events) (ticked ∷ replies)
-round_is {tests} old m ticked mid events replies new known tick beats config network s =
-    let k = known config network s in
-    let on = step_on tests config network old (world.Tick m.writer.peer m.moment) ticked.reply mid tick.rules s in
-    let after = after_tick config on.after network m (length old.sent) mid events replies new k on.stands beats in
+    → Beating tests m (length old.sent) mid events replies new → (roster : Roster) (network : WorldState)
+    → StandsFor old roster network
+    → IsRound roster network m.writer m.reader new.sent (world.Tick m.writer.peer m.moment ∷ events) (ticked ∷ replies)
+round_is {tests} old m ticked mid events replies new known tick beats roster network s =
+    let k = known roster network s in
+    let on = step_on tests roster network old (world.Tick m.writer.peer m.moment) ticked.reply mid tick.rules s in
+    let after = after_tick roster on.after network m (length old.sent) mid events replies new k on.stands beats in
     let counted =
-    subst (λ (n : ℕ). AfterTick config m.writer m.reader new.sent (length old.sent) n events replies)
+    subst (λ (n : ℕ). AfterTick roster m.writer m.reader new.sent (length old.sent) n events replies)
     (sym tick.sent) after in (
       refl,
       k.moment,
-      subst (λ (ps : List Packet). AfterTick config m.writer m.reader new.sent
+      subst (λ (ps : List Packet). AfterTick roster m.writer m.reader new.sent
           (length ps) ticked.sent events replies) (sym s.sent) counted,
     )
 
 -- ---- who is matched
 
 -- the peer of this index, in a state of the network
-record IsPeerAt (config : Config) (network : WorldState) (kept : PeerKept) (number : ℕ) : Type 0 where
+record IsPeerAt (roster : Roster) (network : WorldState) (kept : PeerKept) (number : ℕ) : Type 0 where
   peer : Peer
-  stands : CoreStandsFor kept config peer
+  stands : CoreStandsFor kept roster peer
   numbered : peer.number ≡ number
   part : part_at (machine_of network) number ≡ peer.part
 
-peer_is : {hearing : Hearing} → (kept : WorldKept hearing) (i number : ℕ) (core : PeerKept) (config : Config)
+peer_is : {hearing : Hearing} → (kept : WorldKept hearing) (i number : ℕ) (core : PeerKept) (roster : Roster)
     (network : WorldState)
-    → StandsFor kept config network → number ≡ i + 1 → slice_get kept.peers i ≡ Some core
-    → IsPeerAt config network core number
-peer_is kept i number core config network s is at =
+    → StandsFor kept roster network → number ≡ i + 1 → slice_get kept.peers i ≡ Some core
+    → IsPeerAt roster network core number
+peer_is kept i number core roster network s is at =
     let next : suc i ≡ number = omega (arith, is) in
-    let here : IsPeerAt config network core (suc i) = record {
+    let here : IsPeerAt roster network core (suc i) = record {
       peer = get_or network.peers i no_peer;
       stands = s.each i core at;
-      numbered = numbered_so kept config network i core s at;
+      numbered = numbered_so kept roster network i core s at;
       part = numbered-map (λ (p : Peer). p.part) network.peers (suc i) no_peer;
     } in
-    subst (λ (n : ℕ). IsPeerAt config network core n) next here
+    subst (λ (n : ℕ). IsPeerAt roster network core n) next here
 
 pub no_pair_matched : {hearing : Hearing} → (kept : WorldKept hearing) (i : ℕ) (core : PeerKept)
     (writer reader : Endpoint) → writer.peer ≡ i + 1
     → slice_get kept.peers i ≡ Some core
-    → ((config : Config) (peer : Peer) → CoreStandsFor core config peer → IsPair config peer writer.number reader None)
+    → ((roster : Roster) (peer : Peer) → CoreStandsFor core roster peer → IsPair roster peer writer.number reader None)
     → NotMatched kept writer reader
-no_pair_matched kept i core writer reader is at none = λ config network s.
-    let p = peer_is kept i writer.peer core config network s is at in
+no_pair_matched kept i core writer reader is at none = λ roster network s.
+    let p = peer_is kept i writer.peer core roster network s is at in
     subst (λ (part : Part). acknowledged_of (own_writer part writer.number).readers reader ≡ None) (sym p.part)
-    (none config p.peer p.stands)
+    (none roster p.peer p.stands)
 
 pub pair_matched : {hearing : Hearing} → (kept : WorldKept hearing) (i : ℕ) (core : PeerKept)
     (writer reader : Endpoint) (pair : Pair) (now : ℕ)
     → writer.peer ≡ i + 1 → slice_get kept.peers i ≡ Some core
-    → ((config : Config) (peer : Peer) → CoreStandsFor core config peer
-    → IsPair config peer writer.number reader (Some pair))
-    → ((config : Config) (peer : Peer) → CoreStandsFor core config peer → now ≡ peer.part.dds.moment)
+    → ((roster : Roster) (peer : Peer) → CoreStandsFor core roster peer
+    → IsPair roster peer writer.number reader (Some pair))
+    → ((roster : Roster) (peer : Peer) → CoreStandsFor core roster peer → now ≡ peer.part.dds.moment)
     → IsKnown kept (record { writer = writer; reader = reader; pair = pair; moment = now })
-pair_matched kept i core writer reader pair now is at found moment = λ config network s.
-    let p = peer_is kept i writer.peer core config network s is at in
-    let f = found config p.peer p.stands in
+pair_matched kept i core writer reader pair now is at found moment = λ roster network s.
+    let p = peer_is kept i writer.peer core roster network s is at in
+    let f = found roster p.peer p.stands in
     record {
       matched =
           subst (λ (part : Part). IsSome (acknowledged_of (own_writer part writer.number).readers reader))
           (sym p.part) f.0;
-      writer = subst (λ (n : ℕ). pair.writer ≡ writer_entity config n writer.number) p.numbered f.1;
+      writer = subst (λ (n : ℕ). pair.writer ≡ writer_entity roster n writer.number) p.numbered f.1;
       reader = f.2;
       behind = f.3 ∙ ap (λ (part : Part). is_reader_behind (own_writer part writer.number) reader) (sym p.part);
       last = f.4 ∙ ap (λ (part : Part). length (writer_changes (own_writer part writer.number))) (sym p.part);
-      moment = moment config p.peer p.stands ∙ ap (λ (part : Part). part.dds.moment) (sym p.part);
+      moment = moment roster p.peer p.stands ∙ ap (λ (part : Part). part.dds.moment) (sym p.part);
     }
 
 -- ---- the rows of a reader
@@ -378,7 +378,7 @@ pair_matched kept i core writer reader pair now is at found moment = λ config n
 -- what the rows of a reader say, in each state that the network stands for
 abbrev pub AreRowsSo : {hearing : Hearing} {X : Type 0} → WorldKept hearing → (List WriterProxy → X) → Endpoint → X → Type 0
 AreRowsSo kept say reader said =
-    (config : Config) (network : WorldState) → StandsFor kept config network
+    (roster : Roster) (network : WorldState) → StandsFor kept roster network
     → said ≡ say (own_proxies (part_at (machine_of network) reader.peer) reader.number)
 
 -- its place
@@ -393,12 +393,12 @@ pub rows_kept : {hearing : Hearing} {X : Type 0} → (kept : WorldKept hearing) 
     (say : List WriterProxy → X) (reader : Endpoint) (said : X)
     → reader.peer ≡ i + 1
     → slice_get kept.peers i ≡ Some core
-    → ((config : Config) (peer : Peer) → CoreStandsFor core config peer
+    → ((roster : Roster) (peer : Peer) → CoreStandsFor core roster peer
     → said ≡ say (own_proxies peer.part reader.number))
     → AreRowsSo kept say reader said
-rows_kept kept i core say reader said is at of_core = λ config network s.
-    let p = peer_is kept i reader.peer core config network s is at in
-    of_core config p.peer p.stands ∙ ap (λ (part : Part). say (own_proxies part reader.number)) (sym p.part)
+rows_kept kept i core say reader said is at of_core = λ roster network s.
+    let p = peer_is kept i reader.peer core roster network s is at in
+    of_core roster p.peer p.stands ∙ ap (λ (part : Part). say (own_proxies part reader.number)) (sym p.part)
 
 -- ---- where there is no round
 
@@ -409,19 +409,19 @@ no_cause (Some x) b h is = subst (λ (c : Bool). (if c then None else Some BadPa
 
 pub are_matched : {hearing : Hearing} → (kept : WorldKept hearing) (m : Matched) → IsKnown kept m
     → IsMatchedSo kept m.reader m.writer true → AreMatched kept m.writer m.reader
-are_matched kept m known here config network s =
+are_matched kept m known here roster network s =
     no_cause (acknowledged_of (writer_at (machine_of network) m.writer).readers m.reader)
     (is_attached (how_of (own_proxies (part_at (machine_of network) m.reader.peer) m.reader.number) m.writer))
-    (known config network s).matched (here config network s)
+    (known roster network s).matched (here roster network s)
 
 pub not_matched : {hearing : Hearing} → (kept : WorldKept hearing) (writer reader : Endpoint)
     → NotMatched kept writer reader
     → RefusesRound kept writer reader BadParameter
-not_matched kept writer reader none config network s =
+not_matched kept writer reader none roster network s =
     subst (λ (o : Option ℕ). Refuses (if is_some o
     && is_attached (how_of (own_proxies (part_at (machine_of network) reader.peer) reader.number) writer)
     then None else Some BadParameter) BadParameter)
-    (sym (none config network s)) refl
+    (sym (none roster network s)) refl
 
 -- where the reader's side is not matched there is no round
 no_side : (o : Option ℕ) (b : Bool) → false ≡ b
@@ -432,27 +432,27 @@ no_side (Some x) b is =
 
 pub not_attached : {hearing : Hearing} → (kept : WorldKept hearing) (writer reader : Endpoint)
     → IsMatchedSo kept reader writer false → RefusesRound kept writer reader BadParameter
-not_attached kept writer reader none config network s =
+not_attached kept writer reader none roster network s =
     no_side (acknowledged_of (writer_at (machine_of network) writer).readers reader)
     (is_attached (how_of (own_proxies (part_at (machine_of network) reader.peer) reader.number) writer))
-    (none config network s)
+    (none roster network s)
 
 -- so it is of each machine for which the network stands
 pub rows_in : {hearing : Hearing} {X : Type 0} → (kept : WorldKept hearing) (say : List WriterProxy → X)
     (reader : Endpoint) (said : X) → AreRowsSo kept say reader said
-    → (config : Config) (m : Machine) → MachineStands kept config m
+    → (roster : Roster) (m : Machine) → MachineStands kept roster m
     → said ≡ say (own_proxies (part_at m reader.peer) reader.number)
-rows_in kept say reader said is config m stands =
-    is config stands.0 stands.2
+rows_in kept say reader said is roster m stands =
+    is roster stands.0 stands.2
     ∙ ap (λ (x : Machine). say (own_proxies (part_at x reader.peer) reader.number)) stands.1
 
 -- and of each of its states where it is of each such machine
 pub rows_of_machine : {hearing : Hearing} {X : Type 0} → (kept : WorldKept hearing) (say : List WriterProxy → X)
     (reader : Endpoint) (said : X)
-    → ((config : Config) (m : Machine) → MachineStands kept config m
+    → ((roster : Roster) (m : Machine) → MachineStands kept roster m
     → said ≡ say (own_proxies (part_at m reader.peer) reader.number))
     → AreRowsSo kept say reader said
-rows_of_machine kept say reader said is config network s = is config (machine_of network) (network, refl, s)
+rows_of_machine kept say reader said is roster network s = is roster (machine_of network) (network, refl, s)
 
 -- the same of ends that are these
 pub here_of : {hearing : Hearing} → (kept : WorldKept hearing) (writer reader w r : Endpoint) → w ≡ writer → r ≡ reader
@@ -480,8 +480,8 @@ pub not_placed : {hearing : Hearing} → (kept : WorldKept hearing) (writer read
     → RefusesRound kept writer reader BadParameter
 not_placed kept writer reader none =
     not_attached kept writer reader
-    (λ config network s. unplaced (own_proxies (part_at (machine_of network) reader.peer) reader.number) writer
-    (none config network s))
+    (λ roster network s. unplaced (own_proxies (part_at (machine_of network) reader.peer) reader.number) writer
+    (none roster network s))
 
 -- ---- the first such packet
 
@@ -536,11 +536,11 @@ found_here Is sent from index number packet is above here such none =
 pub lacks_memory : {hearing : Hearing} → (kept : WorldKept hearing) (m : Matched) (writer reader : Endpoint)
     → m.writer ≡ writer → m.reader ≡ reader → IsKnown kept m → IsMatchedSo kept m.reader m.writer true
     → RefusesRound kept writer reader Memory
-lacks_memory kept m writer reader is_writer is_reader known here config network s =
+lacks_memory kept m writer reader is_writer is_reader known here roster network s =
     let matched =
     subst (λ (w : Endpoint). round_refusal (machine_of network) w reader ≡ None) is_writer
     (subst (λ (r : Endpoint). round_refusal (machine_of network) m.writer r ≡ None) is_reader
-    (are_matched kept m known here config network s)) in
+    (are_matched kept m known here roster network s)) in
     subst (λ (o : Option Code). Refuses o Memory) (sym matched) refl
 
 -- what holds of want of memory holds of each refusal that is one

@@ -1,6 +1,6 @@
 -- A network whose peers keep the rules of the protocol.
 use Rattle.std.proofs.Common.{◌≡◌, ap, ℕ, suc, ◌+◌, ◌-◌, List, [], Some, length, get_or, slice_get, subst, sym, ◌∙◌, refl, arith}
-use Rattle.dds_base.specs.declared.config.Config.{Config}
+use Rattle.dds_protocol.specs.Roster.{Roster, roster_of}
 use Rattle.dds_base.specs.Written.{Registered, Changed, Asserted, LookedAt, StrengthSet, Ticked}
 use Rattle.dds_machine.specs.declared.call.Call.{Call}
 use Rattle.dds_protocol.specs.declared.event.Event.TheVariants as event
@@ -29,7 +29,7 @@ use Rattle.dds_protocol.specs.Traffic.{Traffic, Sends}
 use Rattle.dds_protocol.proofs.EndsBeside.{machine_ends}
 use Rattle.dds_machine.specs.Noticing.{machine_ended}
 use Rattle.dds_machine.specs.Runs.{Steps}
-use Rattle.dds_world.specs.WorldStanding.{Hearing, WorldKept, StandsFor, MachineStands, KeepsRules, traffic}
+use Rattle.dds_world.specs.WorldStanding.{Hearing, WorldKept, StandsFor, MachineStandsIn, KeepsRules, traffic}
 use Rattle.dds_world.specs.Posting.{Announces}
 use Rattle.dds_world.specs.Acting.{Acts, RuledSteps}
 use Rattle.dds_world.proofs.Sends.{numbered_so}
@@ -37,40 +37,40 @@ use Rattle.dds_world.proofs.WorldSteps.{SendsItsDues, acts_ruled, calls_at, deli
 use Rattle.dds_machine.specs.Machine.{AllTests, Machine, Step}
 
 -- what was sent is that of the state
-pub sent_is : {hearing : Hearing} → (kept : WorldKept hearing) (config : Config) (network : WorldState)
-    (s : StandsFor kept config network)
+pub sent_is : {hearing : Hearing} → (kept : WorldKept hearing) (roster : Roster) (network : WorldState)
+    (s : StandsFor kept roster network)
     → traffic_of network kept.unsent ≡ traffic kept
-sent_is kept config network s =
+sent_is kept roster network s =
     ap (λ (ps : List Packet). let t : Traffic = record { sent = ps; unsent = kept.unsent } in t) s.sent
 
 -- a step by the rules keeps them, and what is delivered at it is taken up, since claims are true
 pub rules_at : {hearing : Hearing} → {tests : AllTests} (old new : WorldKept hearing) (ev : WorldEvent) (reply : Reply)
     → RuledSteps tests old ev reply new → Announces old ev reply new → KeepsRules tests old ev reply new
-rules_at {tests} old new ev reply steps announces config network s =
-    let t = steps config network s in
-    let sends : Sends config (traffic_of network old.unsent) (machine_of network) ev reply (traffic_of t.0 new.unsent) =
-    subst (λ (x : Traffic). Sends config x (machine_of network) ev reply (traffic_of t.0 new.unsent))
-    (sym (sent_is old config network s))
-    (subst (λ (x : Traffic). Sends config (traffic old) (machine_of network) ev reply x)
-    (sym (sent_is new config (world_ended network ev t.0) t.5)) (announces config network s)) in
-    let counted : CountedStep config tests network old.unsent ev reply t.0 new.unsent = record {
+rules_at {tests} old new ev reply steps announces roster network s =
+    let t = steps roster network s in
+    let sends : Sends roster (traffic_of network old.unsent) (machine_of network) ev reply (traffic_of t.0 new.unsent) =
+    subst (λ (x : Traffic). Sends roster x (machine_of network) ev reply (traffic_of t.0 new.unsent))
+    (sym (sent_is old roster network s))
+    (subst (λ (x : Traffic). Sends roster (traffic old) (machine_of network) ev reply x)
+    (sym (sent_is new roster (world_ended network ev t.0) t.5)) (announces roster network s)) in
+    let counted : CountedStep roster tests network old.unsent ev reply t.0 new.unsent = record {
       lost = t.1;
       ruled = t.2;
       counted = t.3;
       machine = subst (λ (ps : List Packet). Step tests (length ps) (machine_of network) ev reply (machine_of t.0))
           (sym s.sent) t.4;
       sends = sends;
-      progress = (composes config tests network t.0 ev reply s.sound t.2.step).1;
+      progress = (composes roster tests network t.0 ev reply s.sound t.2.step).1;
     } in
     (t.0, counted, t.5)
 
 -- it is a step of the machine that the peers are the parts of
 pub machine_steps : {hearing : Hearing} → {tests : AllTests} (old new : WorldKept hearing) (ev : WorldEvent)
     (reply : Reply)
-    → RuledSteps tests old ev reply new → Steps MachineStands tests (length old.sent) old ev reply new
+    → RuledSteps tests old ev reply new → Steps MachineStandsIn tests (length old.sent) old ev reply new
 machine_steps {tests} old new ev reply steps config m stands =
     let network = stands.0 in
-    let t = steps config network stands.2 in (
+    let t = steps (roster_of config) network stands.2 in (
       machine_of t.0,
       subst (λ (x : Machine). Step tests (length old.sent) x ev reply (machine_of t.0)) stands.1 t.4,
       (
@@ -82,36 +82,36 @@ machine_steps {tests} old new ev reply steps config m stands =
 
 -- ---- a call
 
-effect_due : (config : Config) (peer : Peer) (effect : Effect) (output : Output) → SendsFor config peer effect output
-    → AreSent (announcements_due config peer.number (state_of peer) effect) output.packets output.unsent
-effect_due config peer (writes w (Changed change)) output one = one.are_sent
-effect_due config peer (writes w (Registered key)) output none = (none.packets, none.unsent)
-effect_due config peer (writes w (Asserted moment)) output are = are
-effect_due config peer (writes w LookedAt) output none = (none.packets, none.unsent)
-effect_due config peer (writes w (StrengthSet strength)) output none = (none.packets, none.unsent)
-effect_due config peer (writes w (Ticked now behind)) output none = (none.packets, none.unsent)
-effect_due config peer (tells telling) output none = (none.packets, none.unsent)
-effect_due config peer (looks_at_matches w) output none = (none.packets, none.unsent)
-effect_due config peer nothing output none = (none.packets, none.unsent)
+effect_due : (roster : Roster) (peer : Peer) (effect : Effect) (output : Output) → SendsFor roster peer effect output
+    → AreSent (announcements_due roster peer.number (state_of peer) effect) output.packets output.unsent
+effect_due roster peer (writes w (Changed change)) output one = one.are_sent
+effect_due roster peer (writes w (Registered key)) output none = (none.packets, none.unsent)
+effect_due roster peer (writes w (Asserted moment)) output are = are
+effect_due roster peer (writes w LookedAt) output none = (none.packets, none.unsent)
+effect_due roster peer (writes w (StrengthSet strength)) output none = (none.packets, none.unsent)
+effect_due roster peer (writes w (Ticked now behind)) output none = (none.packets, none.unsent)
+effect_due roster peer (tells telling) output none = (none.packets, none.unsent)
+effect_due roster peer (looks_at_matches w) output none = (none.packets, none.unsent)
+effect_due roster peer nothing output none = (none.packets, none.unsent)
 
 call_dues : {hearing : Hearing} → {tests : AllTests} → (kept new : WorldKept hearing) (i : ℕ) (call : Call)
     (reply : Reply)
     (a : Acts tests kept i (event.Call call) reply new)
     → SendsItsDues tests kept i (event.Call call) (world.Call (suc i) call) reply new a
-call_dues kept new i call reply a config network next s rules =
+call_dues kept new i call reply a roster network next s rules =
     let peer : Peer = get_or network.peers i no_peer in
     let output : Output = a.acts.output in
     let sent =
-    effect_due config peer (effect_of peer.part call output.reply) output rules in
-    let replied : AreSent (announcements_due config peer.number (state_of peer) (effect_of peer.part call reply))
+    effect_due roster peer (effect_of peer.part call output.reply) output rules in
+    let replied : AreSent (announcements_due roster peer.number (state_of peer) (effect_of peer.part call reply))
     output.packets output.unsent =
-    subst (λ (r : Reply). AreSent (announcements_due config peer.number (state_of peer) (effect_of peer.part call r))
+    subst (λ (r : Reply). AreSent (announcements_due roster peer.number (state_of peer) (effect_of peer.part call r))
     output.packets output.unsent) (sym a.acts.replies) sent in (
-      announcements_due config (suc i) (state_of peer) (effect_of peer.part call reply),
+      announcements_due roster (suc i) (state_of peer) (effect_of peer.part call reply),
       refl,
-      subst (λ (n : ℕ). AreSent (announcements_due config n (state_of peer) (effect_of peer.part call reply))
+      subst (λ (n : ℕ). AreSent (announcements_due roster n (state_of peer) (effect_of peer.part call reply))
           output.packets output.unsent)
-          (numbered_so kept config network i a.acts.core s a.acts.at) replied,
+          (numbered_so kept roster network i a.acts.core s a.acts.at) replied,
     )
 
 pub called : {hearing : Hearing} → {tests : AllTests} → (kept new : WorldKept hearing) (i peer : ℕ) (call : Call)
@@ -126,37 +126,37 @@ called {tests} kept new i peer call reply is a =
 -- ---- a tick
 
 -- what is due at a tick with this reply, where the writers know this of their readers
-abbrev due_so : Config → (ℕ → Endpoint → Contact) → ℕ → Part → Reply → List Due
-due_so config contacts peer part Done = heartbeats_due config contacts peer part
-due_so config contacts peer part reply = []
+abbrev due_so : Roster → (ℕ → Endpoint → Contact) → ℕ → Part → Reply → List Due
+due_so roster contacts peer part Done = heartbeats_due roster contacts peer part
+due_so roster contacts peer part reply = []
 
-tick_due : (config : Config) (peer : Peer) (reply : Reply)
-    → due_at_tick config peer reply ≡ due_so config peer.known.answered peer.number peer.part reply
-tick_due config peer Done = refl
-tick_due config peer reply = refl
+tick_due : (roster : Roster) (peer : Peer) (reply : Reply)
+    → due_at_tick roster peer reply ≡ due_so roster peer.known.answered peer.number peer.part reply
+tick_due roster peer Done = refl
+tick_due roster peer reply = refl
 
-are_due_so : (config : Config) (network next : WorldState) (i now : ℕ) (reply : Reply)
-    → AreDue config network (world.Tick (suc i) now) reply next
-    (due_so config (get_or network.peers i no_peer).known.answered (suc i) (get_or network.peers i no_peer).part reply)
-are_due_so config network next i now Done = refl
-are_due_so config network next i now reply = refl
+are_due_so : (roster : Roster) (network next : WorldState) (i now : ℕ) (reply : Reply)
+    → AreDue roster network (world.Tick (suc i) now) reply next
+    (due_so roster (get_or network.peers i no_peer).known.answered (suc i) (get_or network.peers i no_peer).part reply)
+are_due_so roster network next i now Done = refl
+are_due_so roster network next i now reply = refl
 
 tick_dues : {hearing : Hearing} → {tests : AllTests} → (kept new : WorldKept hearing) (i now : ℕ) (reply : Reply)
     (a : Acts tests kept i (event.Tick now) reply new)
     → SendsItsDues tests kept i (event.Tick now) (world.Tick (suc i) now) reply new a
-tick_dues kept new i now reply a config network next s rules =
+tick_dues kept new i now reply a roster network next s rules =
     let peer : Peer = get_or network.peers i no_peer in
     let contacts : ℕ → Endpoint → Contact = peer.known.answered in
     let output : Output = a.acts.output in
-    let sent : AreSent (due_so config contacts peer.number peer.part output.reply) output.packets output.unsent =
-    subst (λ (ds : List Due). AreSent ds output.packets output.unsent) (tick_due config peer output.reply) rules in
-    let replied : AreSent (due_so config contacts peer.number peer.part reply) output.packets output.unsent =
-    subst (λ (r : Reply). AreSent (due_so config contacts peer.number peer.part r) output.packets output.unsent)
+    let sent : AreSent (due_so roster contacts peer.number peer.part output.reply) output.packets output.unsent =
+    subst (λ (ds : List Due). AreSent ds output.packets output.unsent) (tick_due roster peer output.reply) rules in
+    let replied : AreSent (due_so roster contacts peer.number peer.part reply) output.packets output.unsent =
+    subst (λ (r : Reply). AreSent (due_so roster contacts peer.number peer.part r) output.packets output.unsent)
     (sym a.acts.replies) sent in (
-      due_so config contacts (suc i) peer.part reply,
-      are_due_so config network next i now reply,
-      subst (λ (n : ℕ). AreSent (due_so config contacts n peer.part reply) output.packets output.unsent)
-          (numbered_so kept config network i a.acts.core s a.acts.at) replied,
+      due_so roster contacts (suc i) peer.part reply,
+      are_due_so roster network next i now reply,
+      subst (λ (n : ℕ). AreSent (due_so roster contacts n peer.part reply) output.packets output.unsent)
+          (numbered_so kept roster network i a.acts.core s a.acts.at) replied,
     )
 
 pub ticked : {hearing : Hearing} → {tests : AllTests} → (kept new : WorldKept hearing) (i peer now : ℕ)
@@ -170,28 +170,28 @@ ticked {tests} kept new i peer now reply is a =
 -- ---- a delivery
 
 -- what is due to the packet that this report is of
-reported_due : (config : Config) (network next : WorldState) (peer number : ℕ) (packet : Packet) (reply : Reply)
+reported_due : (roster : Roster) (network next : WorldState) (peer number : ℕ) (packet : Packet) (reply : Reply)
     (report : Report) (dues : List Due) → reply ≡ Reported report → slice_get network.sent (number - 1) ≡ Some packet
-    → TakesPacket config peer packet.bytes (state_of (peer_at network peer)) report dues (state_of (peer_at next peer))
-    → AreDue config network (world.Deliver peer number) reply next dues
-reported_due config network next peer number packet reply report dues is at takes =
-    subst (λ (r : Reply). AreDue config network (world.Deliver peer number) r next dues) (sym is) (packet, at, takes)
+    → TakesPacket roster peer packet.bytes (state_of (peer_at network peer)) report dues (state_of (peer_at next peer))
+    → AreDue roster network (world.Deliver peer number) reply next dues
+reported_due roster network next peer number packet reply report dues is at takes =
+    subst (λ (r : Reply). AreDue roster network (world.Deliver peer number) r next dues) (sym is) (packet, at, takes)
 
 delivery_dues : {hearing : Hearing} → {tests : AllTests} → (kept new : WorldKept hearing) (i j : ℕ) (packet : Packet)
     (reply : Reply)
     → slice_get kept.sent j ≡ Some packet → (a : Acts tests kept i (event.Deliver packet.bytes) reply new)
     → SendsItsDues tests kept i (event.Deliver packet.bytes) (world.Deliver (suc i) (j + 1)) reply new a
-delivery_dues kept new i j packet reply at a config network next s rules =
+delivery_dues kept new i j packet reply at a roster network next s rules =
     let before : State = state_of (get_or network.peers i no_peer) in
     let later : State = state_of (get_or next.peers i no_peer) in
     let there : slice_get network.sent ((j + 1) - 1) ≡ Some packet =
     subst (λ (ps : List Packet). slice_get ps ((j + 1) - 1) ≡ Some packet) (sym s.sent)
     (found_at kept.sent j packet at) in (
       rules.dues,
-      reported_due config network next (suc i) (j + 1) packet reply rules.report rules.dues
+      reported_due roster network next (suc i) (j + 1) packet reply rules.report rules.dues
           (a.acts.replies ∙ rules.reply) there
-          (subst (λ (n : ℕ). TakesPacket config n packet.bytes before rules.report rules.dues later)
-          (numbered_so kept config network i a.acts.core s a.acts.at) rules.takes),
+          (subst (λ (n : ℕ). TakesPacket roster n packet.bytes before rules.report rules.dues later)
+          (numbered_so kept roster network i a.acts.core s a.acts.at) rules.takes),
       rules.sent,
     )
 
@@ -217,20 +217,20 @@ delivered {tests} kept new i j packet reply at a =
 
 -- ---- places that are tried again
 
-resumed_due : (config : Config) (network next : WorldState) (peer reader : ℕ) (reply : Reply)
+resumed_due : (roster : Roster) (network next : WorldState) (peer reader : ℕ) (reply : Reply)
     → ResumesByRules reader (state_of (peer_at network peer)) reply (state_of (peer_at next peer))
-    → AreDue config network (world.Resume peer reader) reply next []
-resumed_due config network next peer reader (Reported report) h = (refl, h)
-resumed_due config network next peer reader reply h = refl
+    → AreDue roster network (world.Resume peer reader) reply next []
+resumed_due roster network next peer reader (Reported report) h = (refl, h)
+resumed_due roster network next peer reader reply h = refl
 
 resume_dues : {hearing : Hearing} → {tests : AllTests} → (kept new : WorldKept hearing) (i reader : ℕ) (reply : Reply)
     (a : Acts tests kept i (event.Resume reader) reply new)
     → SendsItsDues tests kept i (event.Resume reader) (world.Resume (suc i) reader) reply new a
-resume_dues kept new i reader reply a config network next s rules =
+resume_dues kept new i reader reply a roster network next s rules =
     let before : State = state_of (get_or network.peers i no_peer) in
     let later : State = state_of (get_or next.peers i no_peer) in (
       [],
-      resumed_due config network next (suc i) reader reply
+      resumed_due roster network next (suc i) reader reply
           (subst (λ (r : Reply). ResumesByRules reader before r later) (sym a.acts.replies) rules.1),
       (rules.0.packets, rules.0.unsent),
     )

@@ -1,7 +1,7 @@
 -- What a network sends at an event.
 use Rattle.std.proofs.Common.{◌≡◌, ℕ, suc, ◌+◌, List, Some, length, get_or, slice_get, subst, sym, ◌∙◌, refl, arith}
 use Rattle.dds_base.specs.declared.change.Change.{Change}
-use Rattle.dds_base.specs.declared.config.Config.{Config}
+use Rattle.dds_protocol.specs.Roster.{Roster}
 use Rattle.dds_base.specs.Written.{Registered, Changed, Asserted, LookedAt, StrengthSet, Ticked}
 use Rattle.dds_machine.specs.declared.call.Call.{Call}
 use Rattle.dds_base.specs.declared.endpoint.Endpoint.{Endpoint}
@@ -34,12 +34,12 @@ use Rattle.dds_world.specs.Acting.{Acts, Counts, IsQuiet}
 use Rattle.dds_world.proofs.Posted.{lost_in_all, lost_is, posted_count, posted_on}
 
 -- a change that a peer announces is announced in the network
-announced : {hearing : Hearing} → (kept new : WorldKept hearing) (config : Config) (writer : Endpoint)
+announced : {hearing : Hearing} → (kept new : WorldKept hearing) (roster : Roster) (writer : Endpoint)
     (readers : List Endpoint) (number : ℕ)
     (change : Change) (output : Output) → Posts kept.sent output.packets new.sent → Counts kept output new
-    → SendsChange config writer readers number change output
-    → Announced config (traffic kept) writer readers number change (traffic new)
-announced kept new config writer readers number change output posts counts one =
+    → SendsChange roster writer readers number change output
+    → Announced roster (traffic kept) writer readers number change (traffic new)
+announced kept new roster writer readers number change output posts counts one =
     let parts = posted_count output.packets posts.posted posts.lost posts.are_posted in
     record {
       packets = posts.posted;
@@ -52,7 +52,7 @@ announced kept new config writer readers number change output posts counts one =
           lost_in_all (length posts.posted) (length output.packets) posts.lost output.unsent
           (length (peers_of readers)) parts one.counted;
       are_sent =
-          posted_on (changes_due config writer readers number change) output.packets posts.posted output.unsent
+          posted_on (changes_due roster writer readers number change) output.packets posts.posted output.unsent
           posts.lost one.are_sent posts.are_posted;
       unsent = lost_is kept new output posts counts;
     }
@@ -80,72 +80,72 @@ same_traffic kept new output quiet none =
     let q = quiet none in traffic_as new.sent kept.sent new.unsent kept.unsent q.0 q.1
 
 -- what a peer of this number and this part, whose writers know this of their readers, sends for an effect
-abbrev SendsAt : Config → Traffic → (ℕ → Endpoint → Contact) → ℕ → Part → Effect → Traffic → Type 0
-SendsAt config old contacts peer part (writes writer (Changed change)) new =
-    Announced config old (record { peer = peer; number = writer }) (own_writer part writer).matched
+abbrev SendsAt : Roster → Traffic → (ℕ → Endpoint → Contact) → ℕ → Part → Effect → Traffic → Type 0
+SendsAt roster old contacts peer part (writes writer (Changed change)) new =
+    Announced roster old (record { peer = peer; number = writer }) (own_writer part writer).matched
     (length (writer_changes (own_writer part writer)) + 1) change new
-SendsAt config old contacts peer part (writes writer (Asserted moment)) new =
-    SendsDues (assertions_due config (contacts writer) (record { peer = peer; number = writer })
+SendsAt roster old contacts peer part (writes writer (Asserted moment)) new =
+    SendsDues (assertions_due roster (contacts writer) (record { peer = peer; number = writer })
     (own_writer part writer)) old new
-SendsAt config old contacts peer part other new = new ≡ old
+SendsAt roster old contacts peer part other new = new ≡ old
 
-effect_sends : {hearing : Hearing} → (kept new : WorldKept hearing) (config : Config) (peer : Peer) (effect : Effect)
+effect_sends : {hearing : Hearing} → (kept new : WorldKept hearing) (roster : Roster) (peer : Peer) (effect : Effect)
     (output : Output)
     → Posts kept.sent output.packets new.sent → Counts kept output new → IsQuiet kept output new
-    → SendsFor config peer effect output
-    → SendsAt config (traffic kept) peer.known.answered peer.number peer.part effect (traffic new)
-effect_sends kept new config peer (writes w (Changed change)) output posts counts quiet one =
-    announced kept new config (record { peer = peer.number; number = w }) (own_writer peer.part w).matched
+    → SendsFor roster peer effect output
+    → SendsAt roster (traffic kept) peer.known.answered peer.number peer.part effect (traffic new)
+effect_sends kept new roster peer (writes w (Changed change)) output posts counts quiet one =
+    announced kept new roster (record { peer = peer.number; number = w }) (own_writer peer.part w).matched
     (length (writer_changes (own_writer peer.part w)) + 1) change output posts counts one
-effect_sends kept new config peer (writes w (Registered key)) output posts counts quiet none =
+effect_sends kept new roster peer (writes w (Registered key)) output posts counts quiet none =
     same_traffic kept new output quiet none
-effect_sends kept new config peer (writes w (Asserted moment)) output posts counts quiet are =
-    dues_sent kept new (assertions_due config (peer.known.answered w) (record { peer = peer.number; number = w })
+effect_sends kept new roster peer (writes w (Asserted moment)) output posts counts quiet are =
+    dues_sent kept new (assertions_due roster (peer.known.answered w) (record { peer = peer.number; number = w })
     (own_writer peer.part w)) output posts counts are
-effect_sends kept new config peer (writes w LookedAt) output posts counts quiet none =
+effect_sends kept new roster peer (writes w LookedAt) output posts counts quiet none =
     same_traffic kept new output quiet none
-effect_sends kept new config peer (writes w (StrengthSet strength)) output posts counts quiet none =
+effect_sends kept new roster peer (writes w (StrengthSet strength)) output posts counts quiet none =
     same_traffic kept new output quiet none
-effect_sends kept new config peer (writes w (Ticked now behind)) output posts counts quiet none =
+effect_sends kept new roster peer (writes w (Ticked now behind)) output posts counts quiet none =
     same_traffic kept new output quiet none
-effect_sends kept new config peer (tells telling) output posts counts quiet none =
+effect_sends kept new roster peer (tells telling) output posts counts quiet none =
     same_traffic kept new output quiet none
-effect_sends kept new config peer (looks_at_matches w) output posts counts quiet none =
+effect_sends kept new roster peer (looks_at_matches w) output posts counts quiet none =
     same_traffic kept new output quiet none
-effect_sends kept new config peer nothing output posts counts quiet none = same_traffic kept new output quiet none
+effect_sends kept new roster peer nothing output posts counts quiet none = same_traffic kept new output quiet none
 
 -- a peer of the machine sends so
-machine_sends : (config : Config) (old new : Traffic) (contacts : ℕ → Endpoint → Contact) (network : WorldState)
-    (peer : ℕ) (effect : Effect) → SendsAt config old contacts peer (part_at (machine_of network) peer) effect new
-    → SendsOf config old (machine_of network) peer effect new
-machine_sends config old new contacts network peer (writes w (Changed change)) h = h
-machine_sends config old new contacts network peer (writes w (Registered key)) h = h
-machine_sends config old new contacts network peer (writes w (Asserted moment)) h = (contacts w, h)
-machine_sends config old new contacts network peer (writes w LookedAt) h = h
-machine_sends config old new contacts network peer (writes w (StrengthSet strength)) h = h
-machine_sends config old new contacts network peer (writes w (Ticked now behind)) h = h
-machine_sends config old new contacts network peer (tells telling) h = h
-machine_sends config old new contacts network peer (looks_at_matches w) h = h
-machine_sends config old new contacts network peer nothing h = h
+machine_sends : (roster : Roster) (old new : Traffic) (contacts : ℕ → Endpoint → Contact) (network : WorldState)
+    (peer : ℕ) (effect : Effect) → SendsAt roster old contacts peer (part_at (machine_of network) peer) effect new
+    → SendsOf roster old (machine_of network) peer effect new
+machine_sends roster old new contacts network peer (writes w (Changed change)) h = h
+machine_sends roster old new contacts network peer (writes w (Registered key)) h = h
+machine_sends roster old new contacts network peer (writes w (Asserted moment)) h = (contacts w, h)
+machine_sends roster old new contacts network peer (writes w LookedAt) h = h
+machine_sends roster old new contacts network peer (writes w (StrengthSet strength)) h = h
+machine_sends roster old new contacts network peer (writes w (Ticked now behind)) h = h
+machine_sends roster old new contacts network peer (tells telling) h = h
+machine_sends roster old new contacts network peer (looks_at_matches w) h = h
+machine_sends roster old new contacts network peer nothing h = h
 
 -- the number of the peer of this index
-pub numbered_so : {hearing : Hearing} → (kept : WorldKept hearing) (config : Config) (network : WorldState) (i : ℕ)
+pub numbered_so : {hearing : Hearing} → (kept : WorldKept hearing) (roster : Roster) (network : WorldState) (i : ℕ)
     (core : PeerKept)
-    → StandsFor kept config network → slice_get kept.peers i ≡ Some core
+    → StandsFor kept roster network → slice_get kept.peers i ≡ Some core
     → (get_or network.peers i no_peer).number ≡ suc i
-numbered_so kept config network i core s at =
+numbered_so kept roster network i core s at =
     let count = s.count in
     let low = get-within kept.peers i core at in s.sound.number (suc i) (omega arith, omega (arith, count, low))
 
 -- the event of the peer of this index follows the rules of the protocol
 rules_of : {hearing : Hearing} → {tests : AllTests} → (kept new : WorldKept hearing) (i : ℕ) (ev : Event)
-    (reply : Reply) (a : Acts tests kept i ev reply new) (config : Config) (network : WorldState)
-    → StandsFor kept config network
-    → (after : Peer) × CoreKeepsRules config (get_or network.peers i no_peer) ev a.acts.output after
-rules_of kept new i ev reply a config network s =
+    (reply : Reply) (a : Acts tests kept i ev reply new) (roster : Roster) (network : WorldState)
+    → StandsFor kept roster network
+    → (after : Peer) × CoreKeepsRules roster (get_or network.peers i no_peer) ev a.acts.output after
+rules_of kept new i ev reply a roster network s =
     let acts = a.acts in
     let r =
-    acts.steps config (get_or network.peers i no_peer) (s.each i acts.core acts.at) (s.filters i)
+    acts.steps roster (get_or network.peers i no_peer) (s.each i acts.core acts.at) (s.filters i)
     (s.listeners i acts.slots acts.slots_at) (s.known i acts.core acts.at) in
     (r.0, r.2)
 
@@ -153,30 +153,30 @@ rules_of kept new i ev reply a config network s =
 call_sends : {hearing : Hearing} → {tests : AllTests} → (kept new : WorldKept hearing) (i : ℕ) (c : Call)
     (reply : Reply)
     → Acts tests kept i (event.Call c) reply new → Announces kept (world.Call (suc i) c) reply new
-call_sends kept new i c reply a config network s =
+call_sends kept new i c reply a roster network s =
     let acts = a.acts in
     let old : Traffic = traffic kept in
     let peer : Peer = get_or network.peers i no_peer in
     let output : Output = acts.output in
-    let number = numbered_so kept config network i acts.core s acts.at in
+    let number = numbered_so kept roster network i acts.core s acts.at in
     let part : part_at (machine_of network) (suc i) ≡ peer.part =
     numbered-map (λ (p : Peer). p.part) network.peers (suc i) no_peer in
     let effect : Effect = effect_of peer.part c output.reply in
     let contacts : ℕ → Endpoint → Contact = peer.known.answered in
-    let sent : SendsAt config old contacts peer.number peer.part effect (traffic new) =
-    effect_sends kept new config peer effect output acts.posts a.counts a.quiet
-    (rules_of kept new i (event.Call c) reply a config network s).1 in
-    let replied : SendsAt config old contacts peer.number peer.part (effect_of peer.part c reply) (traffic new) =
-    subst (λ (r : Reply). SendsAt config old contacts peer.number peer.part (effect_of peer.part c r) (traffic new))
+    let sent : SendsAt roster old contacts peer.number peer.part effect (traffic new) =
+    effect_sends kept new roster peer effect output acts.posts a.counts a.quiet
+    (rules_of kept new i (event.Call c) reply a roster network s).1 in
+    let replied : SendsAt roster old contacts peer.number peer.part (effect_of peer.part c reply) (traffic new) =
+    subst (λ (r : Reply). SendsAt roster old contacts peer.number peer.part (effect_of peer.part c r) (traffic new))
     (sym acts.replies) sent in
-    let numbered' : SendsAt config old contacts (suc i) peer.part (effect_of peer.part c reply) (traffic new) =
-    subst (λ (n : ℕ). SendsAt config old contacts n peer.part (effect_of peer.part c reply) (traffic new)) number
+    let numbered' : SendsAt roster old contacts (suc i) peer.part (effect_of peer.part c reply) (traffic new) =
+    subst (λ (n : ℕ). SendsAt roster old contacts n peer.part (effect_of peer.part c reply) (traffic new)) number
     replied in
-    let parted : SendsAt config old contacts (suc i) (part_at (machine_of network) (suc i))
+    let parted : SendsAt roster old contacts (suc i) (part_at (machine_of network) (suc i))
     (effect_of (part_at (machine_of network) (suc i)) c reply) (traffic new) =
-    subst (λ (p : Part). SendsAt config old contacts (suc i) p (effect_of p c reply) (traffic new)) (sym part)
+    subst (λ (p : Part). SendsAt roster old contacts (suc i) p (effect_of p c reply) (traffic new)) (sym part)
     numbered' in
-    machine_sends config old (traffic new) contacts network (suc i)
+    machine_sends roster old (traffic new) contacts network (suc i)
     (effect_of (part_at (machine_of network) (suc i)) c reply) parted
 
 pub called_sends : {hearing : Hearing} → {tests : AllTests} → (kept new : WorldKept hearing) (i peer : ℕ) (c : Call)
@@ -188,44 +188,44 @@ called_sends kept new i peer c reply is a =
 -- a tick sends what is due
 
 -- what a tick of such a peer sends, by its reply
-abbrev TicksAt : Config → Traffic → (ℕ → Endpoint → Contact) → ℕ → Part → Reply → Traffic → Type 0
-TicksAt config old contacts peer part Done new = SendsDues (heartbeats_due config contacts peer part) old new
-TicksAt config old contacts peer part reply new = new ≡ old
+abbrev TicksAt : Roster → Traffic → (ℕ → Endpoint → Contact) → ℕ → Part → Reply → Traffic → Type 0
+TicksAt roster old contacts peer part Done new = SendsDues (heartbeats_due roster contacts peer part) old new
+TicksAt roster old contacts peer part reply new = new ≡ old
 
-tick_sends : {hearing : Hearing} → (kept new : WorldKept hearing) (config : Config) (peer : Peer) (reply : Reply)
+tick_sends : {hearing : Hearing} → (kept new : WorldKept hearing) (roster : Roster) (peer : Peer) (reply : Reply)
     (output : Output)
     → Posts kept.sent output.packets new.sent → Counts kept output new → IsQuiet kept output new
-    → AreSent (due_at_tick config peer reply) output.packets output.unsent
-    → TicksAt config (traffic kept) peer.known.answered peer.number peer.part reply (traffic new)
-tick_sends kept new config peer Done output posts counts quiet are =
-    dues_sent kept new (heartbeats_due config peer.known.answered peer.number peer.part) output posts counts are
-tick_sends kept new config peer reply output posts counts quiet are =
+    → AreSent (due_at_tick roster peer reply) output.packets output.unsent
+    → TicksAt roster (traffic kept) peer.known.answered peer.number peer.part reply (traffic new)
+tick_sends kept new roster peer Done output posts counts quiet are =
+    dues_sent kept new (heartbeats_due roster peer.known.answered peer.number peer.part) output posts counts are
+tick_sends kept new roster peer reply output posts counts quiet are =
     same_traffic kept new output quiet (record { packets = are.0; unsent = are.1 })
 
-machine_ticks : (config : Config) (old new : Traffic) (contacts : ℕ → Endpoint → Contact) (network : WorldState)
-    (peer now : ℕ) (reply : Reply) → TicksAt config old contacts peer (part_at (machine_of network) peer) reply new
-    → Sends config old (machine_of network) (world.Tick peer now) reply new
-machine_ticks config old new contacts network peer now Done h = (contacts, h)
-machine_ticks config old new contacts network peer now reply h = h
+machine_ticks : (roster : Roster) (old new : Traffic) (contacts : ℕ → Endpoint → Contact) (network : WorldState)
+    (peer now : ℕ) (reply : Reply) → TicksAt roster old contacts peer (part_at (machine_of network) peer) reply new
+    → Sends roster old (machine_of network) (world.Tick peer now) reply new
+machine_ticks roster old new contacts network peer now Done h = (contacts, h)
+machine_ticks roster old new contacts network peer now reply h = h
 
 ticks_sent : {hearing : Hearing} → {tests : AllTests} → (kept new : WorldKept hearing) (i now : ℕ) (reply : Reply)
     → Acts tests kept i (event.Tick now) reply new → Announces kept (world.Tick (suc i) now) reply new
-ticks_sent kept new i now reply a config network s =
+ticks_sent kept new i now reply a roster network s =
     let acts = a.acts in
     let old : Traffic = traffic kept in
     let peer : Peer = get_or network.peers i no_peer in
-    let number = numbered_so kept config network i acts.core s acts.at in
+    let number = numbered_so kept roster network i acts.core s acts.at in
     let part : part_at (machine_of network) (suc i) ≡ peer.part =
     numbered-map (λ (p : Peer). p.part) network.peers (suc i) no_peer in
     let contacts : ℕ → Endpoint → Contact = peer.known.answered in
-    let sent : TicksAt config old contacts peer.number peer.part acts.output.reply (traffic new) =
-    tick_sends kept new config peer acts.output.reply acts.output acts.posts a.counts a.quiet
-    (rules_of kept new i (event.Tick now) reply a config network s).1 in
-    let replied : TicksAt config old contacts peer.number peer.part reply (traffic new) =
-    subst (λ (r : Reply). TicksAt config old contacts peer.number peer.part r (traffic new)) (sym acts.replies) sent in
-    machine_ticks config old (traffic new) contacts network (suc i) now reply
-    (subst (λ (p : Part). TicksAt config old contacts (suc i) p reply (traffic new)) (sym part)
-    (subst (λ (n : ℕ). TicksAt config old contacts n peer.part reply (traffic new)) number replied))
+    let sent : TicksAt roster old contacts peer.number peer.part acts.output.reply (traffic new) =
+    tick_sends kept new roster peer acts.output.reply acts.output acts.posts a.counts a.quiet
+    (rules_of kept new i (event.Tick now) reply a roster network s).1 in
+    let replied : TicksAt roster old contacts peer.number peer.part reply (traffic new) =
+    subst (λ (r : Reply). TicksAt roster old contacts peer.number peer.part r (traffic new)) (sym acts.replies) sent in
+    machine_ticks roster old (traffic new) contacts network (suc i) now reply
+    (subst (λ (p : Part). TicksAt roster old contacts (suc i) p reply (traffic new)) (sym part)
+    (subst (λ (n : ℕ). TicksAt roster old contacts n peer.part reply (traffic new)) number replied))
 
 pub ticked_sends : {hearing : Hearing} → {tests : AllTests} → (kept new : WorldKept hearing) (i peer now : ℕ)
     (reply : Reply) → peer ≡ i + 1
@@ -236,19 +236,19 @@ ticked_sends kept new i peer now reply is a =
 
 -- a delivery sends what is then due
 
-reported : (config : Config) (old new : Traffic) (network : WorldState) (peer number : ℕ) (reply : Reply)
+reported : (roster : Roster) (old new : Traffic) (network : WorldState) (peer number : ℕ) (reply : Reply)
     (report : Report) → reply ≡ Reported report → (dues : List Due) → SendsDues dues old new
-    → Sends config old (machine_of network) (world.Deliver peer number) reply new
-reported config old new network peer number (Reported r) report is dues h = (dues, h)
-reported config old new network peer number reply report is dues h = absurd cc
+    → Sends roster old (machine_of network) (world.Deliver peer number) reply new
+reported roster old new network peer number (Reported r) report is dues h = (dues, h)
+reported roster old new network peer number reply report is dues h = absurd cc
 
 pub delivered_sends : {hearing : Hearing} → {tests : AllTests} → (kept new : WorldKept hearing) (i peer number : ℕ)
     (bytes : List ℕ) (reply : Reply)
     → Acts tests kept i (event.Deliver bytes) reply new → Announces kept (world.Deliver peer number) reply new
-delivered_sends kept new i peer number bytes reply a config network s =
+delivered_sends kept new i peer number bytes reply a roster network s =
     let acts = a.acts in
-    let rules = (rules_of kept new i (event.Deliver bytes) reply a config network s).1 in
-    reported config (traffic kept) (traffic new) network peer number reply rules.report
+    let rules = (rules_of kept new i (event.Deliver bytes) reply a roster network s).1 in
+    reported roster (traffic kept) (traffic new) network peer number reply rules.report
     (acts.replies ∙ rules.reply) rules.dues
     (dues_sent kept new rules.dues acts.output acts.posts a.counts rules.sent)
 
@@ -257,26 +257,26 @@ delivered_sends kept new i peer number bytes reply a config network s =
 pub resumed_sends : {hearing : Hearing} → {tests : AllTests} → (kept new : WorldKept hearing) (i peer reader : ℕ)
     (reply : Reply)
     → Acts tests kept i (event.Resume reader) reply new → Announces kept (world.Resume peer reader) reply new
-resumed_sends kept new i peer reader reply a config network s =
+resumed_sends kept new i peer reader reply a roster network s =
     same_traffic kept new a.acts.output a.quiet
-    (rules_of kept new i (event.Resume reader) reply a config network s).1.0
+    (rules_of kept new i (event.Resume reader) reply a roster network s).1.0
 
 -- what is refused sends nothing
 
 pub refused_call_sends : {hearing : Hearing} → (kept : WorldKept hearing) (peer : ℕ) (c : Call)
     → Announces kept (world.Call peer c) (Refused BadParameter) kept
-refused_call_sends kept peer c config network s =
-    subst (λ (e : Effect). SendsOf config (traffic kept) (machine_of network) peer e (traffic kept))
+refused_call_sends kept peer c roster network s =
+    subst (λ (e : Effect). SendsOf roster (traffic kept) (machine_of network) peer e (traffic kept))
     (sym (refused_nothing (part_at (machine_of network) peer) c BadParameter)) refl
 
 pub refused_tick_sends : {hearing : Hearing} → (kept : WorldKept hearing) (peer now : ℕ)
     → Announces kept (world.Tick peer now) (Refused BadParameter) kept
-refused_tick_sends kept peer now config network s = refl
+refused_tick_sends kept peer now roster network s = refl
 
 pub refused_delivery_sends : {hearing : Hearing} → (kept : WorldKept hearing) (peer number : ℕ)
     → Announces kept (world.Deliver peer number) (Refused BadParameter) kept
-refused_delivery_sends kept peer number config network s = refl
+refused_delivery_sends kept peer number roster network s = refl
 
 pub refused_resume_sends : {hearing : Hearing} → (kept : WorldKept hearing) (peer reader : ℕ)
     → Announces kept (world.Resume peer reader) (Refused BadParameter) kept
-refused_resume_sends kept peer reader config network s = refl
+refused_resume_sends kept peer reader roster network s = refl

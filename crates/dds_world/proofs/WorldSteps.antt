@@ -7,7 +7,7 @@ use Rattle.std.proofs.lemmas.List.{get_or_append_left, get_or_at}
 use Rattle.std.proofs.lemmas.List.Elements.{All-push, Contains-append_left, Contains-append_right, Contains-append_cases}
 use Rattle.std.proofs.lemmas.List.Kept.{AllPairs-cons}
 use Rattle.dds_base.specs.declared.code.Code.TheVariants.{BadParameter}
-use Rattle.dds_base.specs.declared.config.Config.{Config}
+use Rattle.dds_protocol.specs.Roster.{Roster}
 use Rattle.dds_protocol.specs.Bounds.{IsBounded}
 use Rattle.dds_protocol.specs.Fresh.{HasUsedCounts}
 use Rattle.dds_machine.specs.Noticing.{peer_of}
@@ -130,35 +130,35 @@ posts_more old packets now new packet false h is =
 -- how an event of a peer of this number is one of the network
 abbrev pub IsEventOf : AllTests → List Packet → Event → ℕ → WorldEvent → Type 0
 IsEventOf tests sent ev peer whole =
-    (config : Config) (old new : WorldState) (reply : Reply) → old.sent ≡ sent
-    → PeerSteps config (tests peer) old peer ev reply new → WorldStep config tests old whole reply new
+    (roster : Roster) (old new : WorldState) (reply : Reply) → old.sent ≡ sent
+    → PeerSteps roster (tests peer) old peer ev reply new → WorldStep roster tests old whole reply new
 
 pub calls_at : (tests : AllTests) → (sent : List Packet) (peer : ℕ) (call : Call)
     → IsEventOf tests sent (event.Call call) peer (world.Call peer call)
-calls_at tests sent peer call config old new reply same step = inl step
+calls_at tests sent peer call roster old new reply same step = inl step
 
 pub ticks_at : (tests : AllTests) → (sent : List Packet) (peer now : ℕ)
     → IsEventOf tests sent (event.Tick now) peer (world.Tick peer now)
-ticks_at tests sent peer now config old new reply same step = inl step
+ticks_at tests sent peer now roster old new reply same step = inl step
 
 pub delivers_at : (tests : AllTests) → (sent : List Packet) (peer number : ℕ) (packet : Packet) → 1 ≤ number
     → slice_get sent (number - 1) ≡ Some packet
     → IsEventOf tests sent (event.Deliver packet.bytes) peer (world.Deliver peer number)
-delivers_at tests sent peer number packet low found config old new reply same step =
+delivers_at tests sent peer number packet low found roster old new reply same step =
     inl (packet, low, subst (λ (ps : List Packet). slice_get ps (number - 1) ≡ Some packet) (sym same) found, step)
 
 pub resumes_at : (tests : AllTests) → (sent : List Packet) (peer reader : ℕ)
     → IsEventOf tests sent (event.Resume reader) peer (world.Resume peer reader)
-resumes_at tests sent peer reader config old new reply same step = inl step
+resumes_at tests sent peer reader roster old new reply same step = inl step
 
 -- what the peer of this index sends at an event is what is due at it
 abbrev pub SendsItsDues : {hearing : Hearing} → (tests : AllTests)
     → (kept : WorldKept hearing) (i : ℕ) (ev : Event) (whole : WorldEvent) (reply : Reply) (new : WorldKept hearing)
     → Acts tests kept i ev reply new → Type 0
 SendsItsDues tests kept i ev whole reply new a =
-    (config : Config) (network next : WorldState) → StandsFor kept config network
-    → CoreKeepsRules config (get_or network.peers i no_peer) ev a.acts.output (get_or next.peers i no_peer)
-    → (dues : List Due) × AreDue config network whole reply next dues
+    (roster : Roster) (network next : WorldState) → StandsFor kept roster network
+    → CoreKeepsRules roster (get_or network.peers i no_peer) ev a.acts.output (get_or next.peers i no_peer)
+    → (dues : List Due) × AreDue roster network whole reply next dues
     × AreSent dues a.acts.output.packets a.acts.output.unsent
 
 -- an event of the peer of this index is one of the network by the rules of the protocol
@@ -167,16 +167,16 @@ pub acts_ruled : {hearing : Hearing} → {tests : AllTests} → (kept new : Worl
     → peer_of whole ≡ suc i → IsEventOf tests kept.sent ev (suc i) whole → (a : Acts tests kept i ev reply new)
     → SendsItsDues tests kept i ev whole reply new a
     → RuledSteps tests kept whole reply new
-acts_ruled {hearing} {tests} kept new i ev whole reply its into acts sends config network s =
+acts_ruled {hearing} {tests} kept new i ev whole reply its into acts sends roster network s =
     let a = acts.acts in
-    let core : CoreStandsFor a.core config (get_or network.peers i no_peer) = s.each i a.core a.at in
+    let core : CoreStandsFor a.core roster (get_or network.peers i no_peer) = s.each i a.core a.at in
     let r =
-    a.steps config (get_or network.peers i no_peer) core (s.filters i) (s.listeners i a.slots a.slots_at)
+    a.steps roster (get_or network.peers i no_peer) core (s.filters i) (s.listeners i a.slots a.slots_at)
     (s.known i a.core a.at) in
     let next : WorldState = with_peer network i r.0 new.sent in
     let low : i < length kept.peers = get-within kept.peers i a.core a.at in
     let count = s.count in
-    let step : PeerSteps config (tests (suc i)) network (suc i) ev reply next = record {
+    let step : PeerSteps roster (tests (suc i)) network (suc i) ev reply next = record {
       within = (omega arith, omega (arith, count, low));
       output = a.output;
       replies = sym a.replies;
@@ -188,14 +188,14 @@ acts_ruled {hearing} {tests} kept new i ev whole reply its into acts sends confi
           ap (λ (ps : List Packet). with_peer network i r.0 ps)
           (a.posts.sent ∙ ap (λ (ps : List Packet). ps ++ a.posts.posted) (sym s.sent));
     } in
-    let whole_step : WorldStep config tests network whole reply next = into config network next reply s.sent step in
+    let whole_step : WorldStep roster tests network whole reply next = into roster network next reply s.sent step in
     let low' : i < length network.peers = omega (arith, count, low) in
     let there : get_or next.peers i no_peer ≡ r.0 = get_or-set_same network.peers i r.0 no_peer low' in
-    let rules : CoreKeepsRules config (get_or network.peers i no_peer) ev a.output (get_or next.peers i no_peer) =
-    subst (λ (p : Peer). CoreKeepsRules config (get_or network.peers i no_peer) ev a.output p) (sym there) r.2 in
-    let due = sends config network next s rules in
+    let rules : CoreKeepsRules roster (get_or network.peers i no_peer) ev a.output (get_or next.peers i no_peer) =
+    subst (λ (p : Peer). CoreKeepsRules roster (get_or network.peers i no_peer) ev a.output p) (sym there) r.2 in
+    let due = sends roster network next s rules in
     let lost : ℕ = a.output.unsent + a.posts.lost in
-    let ruled : RuledStep config tests network whole reply lost next = record {
+    let ruled : RuledStep roster tests network whole reply lost next = record {
       step = whole_step;
       dues = due.0;
       due = due.1;
@@ -203,17 +203,17 @@ acts_ruled {hearing} {tests} kept new i ev whole reply its into acts sends confi
       sent = a.posts.sent ∙ ap (λ (ps : List Packet). ps ++ a.posts.posted) (sym s.sent);
       are_sent = posted_on due.0 a.output.packets a.posts.posted a.output.unsent a.posts.lost due.2 a.posts.are_posted;
     } in
-    let c = composes config tests network next whole reply s.sound whole_step in
+    let c = composes roster tests network next whole reply s.sound whole_step in
     let unsent = lost_is kept new a.output a.posts acts.counts in
     let end : Peer = peer_at_end (get_or network.peers i no_peer) r.0 in
     let ends : world_ended network whole next ≡ with_peer network i end new.sent =
     ended_at network whole i r.0 new.sent its low' in
-    let used : HasUsedCounts config next =
-    steps_used config tests network whole reply lost next core.is_peer.roster s.used ruled in
+    let used : HasUsedCounts roster next =
+    steps_used roster tests network whole reply lost next core.is_peer.is_roster s.used ruled in
     let bounded : IsBounded (machine_of next) =
     steps_bounded tests (length network.sent) (machine_of network) whole reply (machine_of next) s.bounded c.0 in
-    let stands : StandsFor new config (with_peer network i end new.sent) =
-    peer_stands hearing.stands hearing.stands kept new config network i a.after a.left end new.sent s a.peers a.listeners
+    let stands : StandsFor new roster (with_peer network i end new.sent) =
+    peer_stands hearing.stands hearing.stands kept new roster network i a.after a.left end new.sent s a.peers a.listeners
     (λ j k places other h. h)
     (λ j. same_at (λ (p : Peer). p.part.dds.watch.filters) network.peers i end (r.4 ∙ sym (s.filters i)) j
     ∙ (s.filters j ∙ ap (λ (ns : List ℕ). get_or ns j 0) (sym a.filters)))
@@ -223,8 +223,8 @@ acts_ruled {hearing} {tests} kept new i ev whole reply its into acts sends confi
     (Contains-append_cases kept.sent a.posts.posted packet
     (subst (λ (ps : List Packet). Contains ps packet) a.posts.sent m)))
     (omega (arith, unsent))
-    (subst (λ (w : WorldState). Sound config w) ends (ended_sound config network whole next c.2))
-    (subst (λ (w : WorldState). HasUsedCounts config w) ends (ended_used config network whole next used))
+    (subst (λ (w : WorldState). Sound roster w) ends (ended_sound roster network whole next c.2))
+    (subst (λ (w : WorldState). HasUsedCounts roster w) ends (ended_used roster network whole next used))
     (subst (λ (w : WorldState). IsBounded (machine_of w)) ends (world_bounded network whole next bounded)) in (
       next,
       lost,
@@ -232,7 +232,7 @@ acts_ruled {hearing} {tests} kept new i ev whole reply its into acts sends confi
       unsent,
       subst (λ (ps : List Packet). Step tests (length ps) (machine_of network) whole reply (machine_of next)) s.sent
           c.0,
-      subst (λ (w : WorldState). StandsFor new config w) (sym ends) stands,
+      subst (λ (w : WorldState). StandsFor new roster w) (sym ends) stands,
     )
 
 -- the packet of an index, by its number
@@ -247,10 +247,10 @@ no_such : (n count : ℕ) → (nat_lt 0 n && nat_le n count) ≡ false → (n �
 no_such zero count h = inl refl
 no_such (suc n) count h = inr (grind (arith, nat_tests, h))
 
-nobody : {hearing : Hearing} → (kept : WorldKept hearing) (config : Config) (network : WorldState) (peer : ℕ)
-    → StandsFor kept config network
+nobody : {hearing : Hearing} → (kept : WorldKept hearing) (roster : Roster) (network : WorldState) (peer : ℕ)
+    → StandsFor kept roster network
     → (nat_lt 0 peer && nat_le peer (length kept.peers)) ≡ false → HasNumber network.peers peer → ⊥
-nobody kept config network peer s none has =
+nobody kept roster network peer s none has =
     let count = s.count in
     let low = has.0 in
     let high = has.1 in
@@ -258,18 +258,18 @@ nobody kept config network peer s none has =
     (no_such peer (length kept.peers) none)
 
 -- what is refused changes nothing, and nothing is due
-stays : {hearing : Hearing} → {tests : AllTests} → (kept : WorldKept hearing) (config : Config) (network : WorldState)
+stays : {hearing : Hearing} → {tests : AllTests} → (kept : WorldKept hearing) (roster : Roster) (network : WorldState)
     (ev : WorldEvent)
-    → StandsFor kept config network → WorldStep config tests network ev (Refused BadParameter) network
-    → AreDue config network ev (Refused BadParameter) network []
-    → (after : WorldState) × (lost : ℕ) × RuledStep config tests network ev (Refused BadParameter) lost after
+    → StandsFor kept roster network → WorldStep roster tests network ev (Refused BadParameter) network
+    → AreDue roster network ev (Refused BadParameter) network []
+    → (after : WorldState) × (lost : ℕ) × RuledStep roster tests network ev (Refused BadParameter) lost after
     × (kept.unsent ≡ min (kept.unsent + lost) (2 ^ 64 - 1))
     × Step tests (length kept.sent) (machine_of network) ev (Refused BadParameter) (machine_of after)
-    × StandsFor kept config (world_ended network ev after)
-stays {tests} kept config network ev s step none =
+    × StandsFor kept roster (world_ended network ev after)
+stays {tests} kept roster network ev s step none =
     let few = s.few in
-    let c = composes config tests network network ev (Refused BadParameter) s.sound step in
-    let ruled : RuledStep config tests network ev (Refused BadParameter) 0 network = record {
+    let c = composes roster tests network network ev (Refused BadParameter) s.sound step in
+    let ruled : RuledStep roster tests network ev (Refused BadParameter) 0 network = record {
       step = step;
       dues = [];
       due = none;
@@ -284,48 +284,48 @@ stays {tests} kept config network ev s step none =
       subst
           (λ (ps : List Packet). Step tests (length ps) (machine_of network) ev (Refused BadParameter)
           (machine_of network)) s.sent c.0,
-      subst (λ (w : WorldState). StandsFor kept config w)
+      subst (λ (w : WorldState). StandsFor kept roster w)
           (sym (ended_same network ev)) s,
     )
 
 pub unknown_call : {hearing : Hearing} → {tests : AllTests} → (kept : WorldKept hearing) (peer : ℕ) (call : Call)
     → (nat_lt 0 peer && nat_le peer (length kept.peers)) ≡ false
     → RuledSteps tests kept (world.Call peer call) (Refused BadParameter) kept
-unknown_call kept peer call none config network s =
-    stays kept config network (world.Call peer call) s
-    (inr (λ has. nobody kept config network peer s none has, record { is_refused = refl; after = refl }))
-    (sym (ap (λ (e : Effect). announcements_due config peer (state_of (peer_at network peer)) e)
+unknown_call kept peer call none roster network s =
+    stays kept roster network (world.Call peer call) s
+    (inr (λ has. nobody kept roster network peer s none has, record { is_refused = refl; after = refl }))
+    (sym (ap (λ (e : Effect). announcements_due roster peer (state_of (peer_at network peer)) e)
     (refused_nothing (peer_at network peer).part call BadParameter)))
 
 pub unknown_tick : {hearing : Hearing} → {tests : AllTests} → (kept : WorldKept hearing) (peer now : ℕ)
     → (nat_lt 0 peer && nat_le peer (length kept.peers)) ≡ false
     → RuledSteps tests kept (world.Tick peer now) (Refused BadParameter) kept
-unknown_tick kept peer now none config network s =
-    stays kept config network (world.Tick peer now) s
-    (inr (λ has. nobody kept config network peer s none has, record { is_refused = refl; after = refl })) refl
+unknown_tick kept peer now none roster network s =
+    stays kept roster network (world.Tick peer now) s
+    (inr (λ has. nobody kept roster network peer s none has, record { is_refused = refl; after = refl })) refl
 
 pub unknown_delivery : {hearing : Hearing} → {tests : AllTests} → (kept : WorldKept hearing) (peer number : ℕ)
     → (nat_lt 0 peer && nat_le peer (length kept.peers)) ≡ false
     → RuledSteps tests kept (world.Deliver peer number) (Refused BadParameter) kept
-unknown_delivery kept peer number none config network s =
-    stays kept config network (world.Deliver peer number) s
+unknown_delivery kept peer number none roster network s =
+    stays kept roster network (world.Deliver peer number) s
     (inr (
-      inr (inr (λ has. nobody kept config network peer s none has)),
+      inr (inr (λ has. nobody kept roster network peer s none has)),
       record { is_refused = refl; after = refl },
     )) refl
 
 pub unknown_packet : {hearing : Hearing} → {tests : AllTests} → (kept : WorldKept hearing) (peer number : ℕ)
     → (nat_lt 0 number && nat_le number (length kept.sent)) ≡ false
     → RuledSteps tests kept (world.Deliver peer number) (Refused BadParameter) kept
-unknown_packet kept peer number none config network s =
+unknown_packet kept peer number none roster network s =
     let count = ap (λ (ps : List Packet). length ps) s.sent in
     let why : (number ≡ 0) ⊎ (length network.sent < number) ⊎ (HasNumber network.peers peer → ⊥) =
     ⊎_elim (λ z. inl z) (λ past. inr (inl (omega (arith, past, count)))) (no_such number (length kept.sent) none) in
-    stays kept config network (world.Deliver peer number) s (inr (why, record { is_refused = refl; after = refl })) refl
+    stays kept roster network (world.Deliver peer number) s (inr (why, record { is_refused = refl; after = refl })) refl
 
 pub unknown_resume : {hearing : Hearing} → {tests : AllTests} → (kept : WorldKept hearing) (peer reader : ℕ)
     → (nat_lt 0 peer && nat_le peer (length kept.peers)) ≡ false
     → RuledSteps tests kept (world.Resume peer reader) (Refused BadParameter) kept
-unknown_resume kept peer reader none config network s =
-    stays kept config network (world.Resume peer reader) s
-    (inr (λ has. nobody kept config network peer s none has, record { is_refused = refl; after = refl })) refl
+unknown_resume kept peer reader none roster network s =
+    stays kept roster network (world.Resume peer reader) s
+    (inr (λ has. nobody kept roster network peer s none has, record { is_refused = refl; after = refl })) refl

@@ -17,6 +17,7 @@ use Rattle.dds_machine.specs.declared.reply.Reply.{Reply}
 use Rattle.dds_machine.specs.Machine.{AllTests, Step}
 use Rattle.dds_protocol.specs.Rules.{RuledStep}
 use Rattle.dds_protocol.specs.World.{WorldState, machine_of}
+use Rattle.dds_protocol.specs.Roster.{Roster, roster_of}
 use Rattle.dds_core.specs.Kept.{PeerKept}
 use Rattle.dds_core.specs.Opening.{opening_peer}
 use Rattle.dds_ends.specs.Sending.{AreMessages}
@@ -41,13 +42,13 @@ IsQuiet old output new = SendsNothing output → (new.sent ≡ old.sent) × (new
 -- all that is known of that was claimed.
 abbrev pub StepsAt : Tests → PeerKept → ℕ → (Places → Type 0) → Event → Output → PeerKept → (Places → Type 0) → Type 0
 StepsAt tests core filters AreTold event output after TheyAreTold =
-    (config : Config) (peer : Peer) → CoreStandsFor core config peer → peer.part.dds.watch.filters ≡ filters
-    → AreTold peer.part.dds.listeners → IsSound config peer
-    → (stepped : Peer) × PeerStep config tests peer event output stepped
-    × CoreKeepsRules config peer event output stepped
-    × CoreStandsFor after config (peer_at_end peer stepped)
+    (roster : Roster) (peer : Peer) → CoreStandsFor core roster peer → peer.part.dds.watch.filters ≡ filters
+    → AreTold peer.part.dds.listeners → IsSound roster peer
+    → (stepped : Peer) × PeerStep roster tests peer event output stepped
+    × CoreKeepsRules roster peer event output stepped
+    × CoreStandsFor after roster (peer_at_end peer stepped)
     × ((peer_at_end peer stepped).part.dds.watch.filters ≡ filters)
-    × TheyAreTold (peer_at_end peer stepped).part.dds.listeners × IsSound config (peer_at_end peer stepped)
+    × TheyAreTold (peer_at_end peer stepped).part.dds.listeners × IsSound roster (peer_at_end peer stepped)
 
 -- the peer of this index has the event, and the other peers are as they were; of its packets some are sent
 pub record ActsAt {hearing : Hearing} (tests : AllTests) (old : WorldKept hearing) (index : ℕ) (event : Event)
@@ -82,15 +83,15 @@ pub record OpensFirst {F L : Type 0} (notices : L → List Notice) (capacity : L
     (config : Config) (count : ℕ) (kept : List (CoreKept F L)) : Type 0 where
   pub counted : length kept ≡ count
   pub each : (i : ℕ) (k : CoreKept F L) → slice_get kept i ≡ Some k
-      → CoreStands notices capacity becomes (no_listeners (opening_peer config (i + 1)).part) k config (opening_peer config (i + 1))
+      → CoreStands notices capacity becomes (no_listeners (opening_peer config (i + 1)).part) k (roster_of config) (opening_peer config (i + 1))
   pub none : (i : ℕ) (k : CoreKept F L) → slice_get kept i ≡ Some k → k.filtered.filters ≡ []
   pub taken : 1 ≤ count → check_refusal config.peers ≡ None
 
 -- a step of the network's peers by the rules of the protocol, and of its machine, to one state
 abbrev pub RuledSteps : {hearing : Hearing} → AllTests → WorldKept hearing → WorldEvent → Reply → WorldKept hearing
     → Type 0
-RuledSteps tests old event reply new = (config : Config) (network : WorldState) → StandsFor old config network
-    → (after : WorldState) × (lost : ℕ) × RuledStep config tests network event reply lost after
+RuledSteps tests old event reply new = (roster : Roster) (network : WorldState) → StandsFor old roster network
+    → (after : WorldState) × (lost : ℕ) × RuledStep roster tests network event reply lost after
     × (new.unsent ≡ min (old.unsent + lost) (2 ^ 64 - 1))
     × Step tests (length old.sent) (machine_of network) event reply (machine_of after)
-    × StandsFor new config (world_ended network event after)
+    × StandsFor new roster (world_ended network event after)

@@ -2,9 +2,10 @@
 --
 -- DDS 1.4, 2.2.2.1 (Entity, set_listener), 2.2.2.5 (QueryCondition), 2.2.4.3 (access through listeners).
 use Rattle.std.specs.Prelude.{◌≡◌, ℕ, ◌+◌, ◌⊎◌, ◌==◌, if◌then◌else◌, Bool, List, [], ◌∷◌, ◌++◌, map, length, Option, None, Some}
+use Rattle.dds_base.specs.declared.config.Config.{Config}
 use Rattle.dds_base.specs.declared.code.Code.{Code}
 use Rattle.dds_base.specs.declared.code.Code.TheVariants.{BadParameter}
-use Rattle.dds_base.specs.declared.config.Config.{Config}
+use Rattle.dds_protocol.specs.Roster.{Roster}
 use Rattle.dds_base.specs.declared.entity.Entity.{Entity}
 use Rattle.dds_base.specs.declared.key.Key.{Key}
 use Rattle.dds_base.specs.Refusal.{Refuses}
@@ -22,7 +23,7 @@ use Rattle.dds_protocol.specs.Noticing.{world_with_place}
 use Rattle.dds_machine.specs.Numbered.{numbered, with_numbered, HasNumber}
 use Rattle.dds_protocol.specs.World.{WorldState}
 use Rattle.dds_core.specs.Listening.{CoreKept, no_listeners}
-use Rattle.dds_world.specs.WorldStanding.{Hearing, WorldKept, MachineStands, StandsFor}
+use Rattle.dds_world.specs.WorldStanding.{Hearing, WorldKept, MachineStandsIn, StandsFor}
 
 -- the peers with their filters and listeners, every packet that was sent, and how many found no memory
 pub record Held (F L : Type 0) : Type 0 where
@@ -54,7 +55,7 @@ kept_of {F} {L} notices capacity becomes given held = record {
 abbrev pub MachineStandsFor : {F L : Type 0} → (L → List Notice) → (L → ℕ) → (L → Notice → L → Type 0)
     → (ℕ → ByEntity L) → Held F L → Config → Machine → Type 0
 MachineStandsFor notices capacity becomes given held config m =
-    MachineStands (kept_of notices capacity becomes given held) config m
+    MachineStandsIn (kept_of notices capacity becomes given held) config m
 
 -- what the peers were given, once this one was given a listener at an entity, or none
 abbrev pub given_at : {L : Type 0} → (ℕ → ByEntity L) → ℕ → Entity → Option L → ℕ → ByEntity L
@@ -93,9 +94,9 @@ pub record Adds {F L : Type 0} (notices : L → List Notice) (capacity : L → �
       → (filter_refusal (part_at m peer).dds.watch ≡ None)
       × (number ≡ length (numbered (filters_of old) peer []) + 1)
       × MachineStandsFor notices capacity becomes given new config (machine_with_filter m peer)
-  pub rules : (given : ℕ → ByEntity L) (config : Config) (network : WorldState)
-      → StandsFor (kept_of notices capacity becomes given old) config network
-      → StandsFor (kept_of notices capacity becomes given new) config (world_with_filter network peer)
+  pub rules : (given : ℕ → ByEntity L) (roster : Roster) (network : WorldState)
+      → StandsFor (kept_of notices capacity becomes given old) roster network
+      → StandsFor (kept_of notices capacity becomes given new) roster (world_with_filter network peer)
 
 -- For each machine that the network stands for, a filter is refused so: there is no such peer, or no number is left
 -- there, or it is for want of memory.
@@ -128,9 +129,9 @@ pub record Sets {F L : Type 0} (notices : L → List Notice) (capacity : L → �
       × HandedBack notices capacity becomes (at_entity (given peer) entity) handed (at_entity (part_at m peer).dds.listeners entity)
       × MachineStandsFor notices capacity becomes (given_at given peer entity listener) new config
       (machine_with_place m peer entity (listener_place capacity mask listener))
-  pub rules : (given : ℕ → ByEntity L) (config : Config) (network : WorldState)
-      → StandsFor (kept_of notices capacity becomes given old) config network
-      → StandsFor (kept_of notices capacity becomes (given_at given peer entity listener) new) config
+  pub rules : (given : ℕ → ByEntity L) (roster : Roster) (network : WorldState)
+      → StandsFor (kept_of notices capacity becomes given old) roster network
+      → StandsFor (kept_of notices capacity becomes (given_at given peer entity listener) new) roster
       (world_with_place network peer entity (listener_place capacity mask listener))
 
 -- For each machine that the network stands for, a listener is refused so: there is no such peer, or by the first cause

@@ -3,7 +3,7 @@
 --
 -- The network is this project's own.
 use Rattle.std.specs.Prelude.{◌≡◌, ◌≢◌, ◌⊎◌, ℕ, ◌+◌, ◌≤◌, List, [], ◌∷◌, ◌++◌, length, Contains, AllPairs}
-use Rattle.dds_base.specs.declared.config.Config.{Config}
+use Rattle.dds_protocol.specs.Roster.{Roster}
 use Rattle.dds_protocol.specs.declared.event.Packet.{Packet}
 use Rattle.dds_machine.specs.declared.event.WorldEvent.{WorldEvent}
 use Rattle.dds_machine.specs.declared.reply.Reply.{Reply}
@@ -31,5 +31,5 @@ pub record Posts (old : List Packet) (packets : List Packet) (new : List Packet)
 -- For each state that the old network stands for, this is what is sent at the event.
 abbrev pub Announces : {hearing : Hearing} → WorldKept hearing → WorldEvent → Reply → WorldKept hearing → Type 0
 Announces old event reply new =
-    (config : Config) (network : WorldState) → StandsFor old config network
-    → Sends config (traffic old) (machine_of network) event reply (traffic new)
+    (roster : Roster) (network : WorldState) → StandsFor old roster network
+    → Sends roster (traffic old) (machine_of network) event reply (traffic new)

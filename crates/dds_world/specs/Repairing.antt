@@ -2,7 +2,7 @@
 --
 -- RTPS 2.5, 8.4.9 (reliable StatefulWriter), 8.4.12 (reliable StatefulReader).
 use Rattle.std.specs.Prelude.{◌≡◌, ◌⊎◌, ℕ, Bool, List, [], ◌∷◌, ◌++◌, length, IsSome, None}
-use Rattle.dds_base.specs.declared.config.Config.{Config}
+use Rattle.dds_protocol.specs.Roster.{Roster}
 use Rattle.dds_base.specs.declared.key.Key.{Key}
 use Rattle.dds_notices.specs.declared.notice.Notice.{Notice}
 use Rattle.dds_notices.specs.Listeners.{ByEntity}
@@ -23,22 +23,22 @@ use Rattle.dds_world.specs.WorldStanding.{Hearing, WorldKept, StandsFor}
 
 -- the writer is matched with the reader, by these entity ids, the reader is behind exactly so, the writer has made so many changes, and
 -- the moment is that of its peer
-pub record Knows (config : Config) (network : WorldState) (m : Matched) : Type 0 where
+pub record Knows (roster : Roster) (network : WorldState) (m : Matched) : Type 0 where
   pub matched : IsSome (acknowledged_of (writer_at (machine_of network) m.writer).readers m.reader)
-  pub writer : m.pair.writer ≡ writer_entity config m.writer.peer m.writer.number
-  pub reader : m.pair.reader ≡ reader_entity config m.reader.peer m.reader.number
+  pub writer : m.pair.writer ≡ writer_entity roster m.writer.peer m.writer.number
+  pub reader : m.pair.reader ≡ reader_entity roster m.reader.peer m.reader.number
   pub behind : m.pair.is_behind ≡ is_reader_behind (writer_at (machine_of network) m.writer) m.reader
   pub last : m.pair.last ≡ length (writer_changes (writer_at (machine_of network) m.writer))
   pub moment : m.moment ≡ (part_at (machine_of network) m.writer.peer).dds.moment
 
 -- so it is for each state that the network stands for
 abbrev pub IsKnown : {hearing : Hearing} → WorldKept hearing → Matched → Type 0
-IsKnown kept m = (config : Config) (network : WorldState) → StandsFor kept config network → Knows config network m
+IsKnown kept m = (roster : Roster) (network : WorldState) → StandsFor kept roster network → Knows roster network m
 
 -- for each state that the network stands for, the writer is not matched with the reader
 abbrev pub NotMatched : {hearing : Hearing} → WorldKept hearing → Endpoint → Endpoint → Type 0
 NotMatched kept writer reader =
-    (config : Config) (network : WorldState) → StandsFor kept config network
+    (roster : Roster) (network : WorldState) → StandsFor kept roster network
     → acknowledged_of (writer_at (machine_of network) writer).readers reader ≡ None
 
 -- the first such packet with a number above this one is delivered at this peer, and it goes on so; or there is none

@@ -4,9 +4,10 @@
 -- RTPS 2.5, 8.4.9 (reliable StatefulWriter), 8.4.12 (reliable StatefulReader).
 use Rattle.std.specs.Prelude.{◌≡◌, ◌⊎◌, ◌&&◌, ℕ, ◌+◌, ◌-◌, ◌^◌, ◌<◌, ◌≤◌, min, nat_lt, if◌then◌else◌, Bool, true, false, not, List, [], ◌∷◌, length, map, is_some, Option, Some, None}
 use Rattle.std.specs.List.{list_all, list_any}
+use Rattle.dds_base.specs.declared.config.Config.{Config}
 use Rattle.dds_base.specs.declared.code.Code.{Code}
 use Rattle.dds_base.specs.declared.code.Code.TheVariants.{BadParameter}
-use Rattle.dds_base.specs.declared.config.Config.{Config}
+use Rattle.dds_protocol.specs.Roster.{Roster}
 use Rattle.dds_base.specs.Bounds.{max_count}
 use Rattle.dds_base.specs.Kept.{numbers_from}
 use Rattle.dds_base.specs.Refusal.{Refuses}
@@ -47,13 +48,13 @@ round_refusal m writer reader = if is_pair_matched m writer reader then None els
 -- for each state that the network stands for, a round is refused so
 abbrev pub RefusesRound : {hearing : Hearing} → WorldKept hearing → Endpoint → Endpoint → Code → Type 0
 RefusesRound kept writer reader code =
-    (config : Config) (network : WorldState) → StandsFor kept config network
+    (roster : Roster) (network : WorldState) → StandsFor kept roster network
     → Refuses (round_refusal (machine_of network) writer reader) code
 
 -- for each state that the network stands for, the two are matched
 abbrev pub AreMatched : {hearing : Hearing} → WorldKept hearing → Endpoint → Endpoint → Type 0
 AreMatched kept writer reader =
-    (config : Config) (network : WorldState) → StandsFor kept config network
+    (roster : Roster) (network : WorldState) → StandsFor kept roster network
     → round_refusal (machine_of network) writer reader ≡ None
 
 -- one event, as a step of the network answers it, with the counts of packets sent and not sent after it
@@ -91,13 +92,13 @@ pub record IsFirst (Is : Packet → Type 0) (sent : List Packet) (from to k : �
   pub first : HasNone Is sent from (k - 1)
 
 -- the HEARTBEAT of the writer, by its entity id
-abbrev pub heartbeat_of : Config → Endpoint → Sought
-heartbeat_of config writer = sought.Heartbeat (writer_entity config writer.peer writer.number)
+abbrev pub heartbeat_of : Roster → Endpoint → Sought
+heartbeat_of roster writer = sought.Heartbeat (writer_entity roster writer.peer writer.number)
 
 -- the ACKNACK of the reader to the writer, by their entity ids
-abbrev pub acknack_of : Config → Endpoint → Endpoint → Sought
-acknack_of config writer reader =
-    sought.AckNack (reader_entity config reader.peer reader.number) (writer_entity config writer.peer writer.number)
+abbrev pub acknack_of : Roster → Endpoint → Endpoint → Sought
+acknack_of roster writer reader =
+    sought.AckNack (reader_entity roster reader.peer reader.number) (writer_entity roster writer.peer writer.number)
 
 -- the answers: all packets whose numbers lie above this one and are at most the other, up to 256 of them, at this peer
 abbrev pub answers_at : ℕ → ℕ → ℕ → List WorldEvent
@@ -105,31 +106,31 @@ answers_at peer from to = map (λ k. Deliver peer k) (numbers_from (from + 1) (m
 
 -- After the HEARTBEAT: of the packets that its delivery sent to the writer's peer, the first with the ACKNACK is
 -- delivered there, and then its answers at the reader's peer; if there is none, the round ends.
-abbrev pub AfterHeartbeat : Config → Endpoint → Endpoint → List Packet → ℕ → ℕ → List WorldEvent → List RoundReply
+abbrev pub AfterHeartbeat : Roster → Endpoint → Endpoint → List Packet → ℕ → ℕ → List WorldEvent → List RoundReply
     → Type 0
-AfterHeartbeat config writer reader sent from to [] [] =
-    HasNone (IsTo writer.peer (acknack_of config writer reader)) sent from to
-AfterHeartbeat config writer reader sent from to (Deliver peer k ∷ events) (answered ∷ replies) =
-    (peer ≡ writer.peer) × IsFirst (IsTo writer.peer (acknack_of config writer reader)) sent from to k
+AfterHeartbeat roster writer reader sent from to [] [] =
+    HasNone (IsTo writer.peer (acknack_of roster writer reader)) sent from to
+AfterHeartbeat roster writer reader sent from to (Deliver peer k ∷ events) (answered ∷ replies) =
+    (peer ≡ writer.peer) × IsFirst (IsTo writer.peer (acknack_of roster writer reader)) sent from to k
     × (events ≡ answers_at reader.peer to answered.sent)
-AfterHeartbeat config writer reader sent from to events replies = ⊥
+AfterHeartbeat roster writer reader sent from to events replies = ⊥
 
 -- After the tick: of the packets that it sent to the reader's peer, the first with a HEARTBEAT of the writer is
 -- delivered there; if there is none, the round ends.
-abbrev pub AfterTick : Config → Endpoint → Endpoint → List Packet → ℕ → ℕ → List WorldEvent → List RoundReply → Type 0
-AfterTick config writer reader sent from to [] [] = HasNone (IsTo reader.peer (heartbeat_of config writer)) sent from to
-AfterTick config writer reader sent from to (Deliver peer k ∷ events) (heard ∷ replies) =
-    (peer ≡ reader.peer) × IsFirst (IsTo reader.peer (heartbeat_of config writer)) sent from to k
-    × AfterHeartbeat config writer reader sent to heard.sent events replies
-AfterTick config writer reader sent from to events replies = ⊥
+abbrev pub AfterTick : Roster → Endpoint → Endpoint → List Packet → ℕ → ℕ → List WorldEvent → List RoundReply → Type 0
+AfterTick roster writer reader sent from to [] [] = HasNone (IsTo reader.peer (heartbeat_of roster writer)) sent from to
+AfterTick roster writer reader sent from to (Deliver peer k ∷ events) (heard ∷ replies) =
+    (peer ≡ reader.peer) × IsFirst (IsTo reader.peer (heartbeat_of roster writer)) sent from to k
+    × AfterHeartbeat roster writer reader sent to heard.sent events replies
+AfterTick roster writer reader sent from to events replies = ⊥
 
 -- the events of a round, by whose end these packets were sent: first the writer's peer ticks, at its own moment
-abbrev pub IsRound : Config → WorldState → Endpoint → Endpoint → List Packet → List WorldEvent → List RoundReply
+abbrev pub IsRound : Roster → WorldState → Endpoint → Endpoint → List Packet → List WorldEvent → List RoundReply
     → Type 0
-IsRound config network writer reader sent (Tick peer now ∷ events) (ticked ∷ replies) =
+IsRound roster network writer reader sent (Tick peer now ∷ events) (ticked ∷ replies) =
     (peer ≡ writer.peer) × (now ≡ (part_at (machine_of network) writer.peer).dds.moment)
-    × AfterTick config writer reader sent (length network.sent) ticked.sent events replies
-IsRound config network writer reader sent events replies = ⊥
+    × AfterTick roster writer reader sent (length network.sent) ticked.sent events replies
+IsRound roster network writer reader sent events replies = ⊥
 
 -- memory was found for all of what this answers
 abbrev pub is_whole : Reply → Bool
@@ -175,14 +176,14 @@ replies_of replies = map (λ (r : RoundReply). r.reply) replies
 -- how the pair stood before it, and the reader's place after it. There the reader has gone on by 256 numbers, or to the
 -- end of the writer's list, or to a change that has no room, and the writer knows of all that the reader had before,
 -- unless something hindered the round, or, where somebody is silent, or has come or left, something else excuses it.
-pub record RoundFrom {hearing : Hearing} (tests : AllTests) (config : Config) (network : WorldState)
+pub record RoundFrom {hearing : Hearing} (tests : AllTests) (roster : Roster) (network : WorldState)
     (old : WorldKept hearing)
     (writer reader : Endpoint)
     (events : List WorldEvent) (answer : Round) (new : WorldKept hearing) : Type 0 where
-  pub is_round : IsRound config network writer reader new.sent events answer.replies
+  pub is_round : IsRound roster network writer reader new.sent events answer.replies
   pub after : WorldState
-  pub run : RuledRun config tests network old.unsent events (replies_of answer.replies) after new.unsent
-  pub stands : StandsFor new config after
+  pub run : RuledRun roster tests network old.unsent events (replies_of answer.replies) after new.unsent
+  pub stands : StandsFor new roster after
   pub was_behind : answer.was_behind ≡ is_reader_behind (writer_at (machine_of network) writer) reader
   pub unsent_before : answer.unsent_before ≡ old.unsent
   pub last : answer.last ≡ length (writer_changes (writer_at (machine_of network) writer))
@@ -200,8 +201,8 @@ pub record Rounds {hearing : Hearing} (tests : AllTests) (old : WorldKept hearin
     (new : WorldKept hearing) : Type 0 where
   pub events : List WorldEvent
   pub steps : AreSteps tests old events answer.replies new
-  pub round : (config : Config) (network : WorldState) → StandsFor old config network
-      → RoundFrom tests config network old writer reader events answer new
+  pub round : (roster : Roster) (network : WorldState) → StandsFor old roster network
+      → RoundFrom tests roster network old writer reader events answer new
 
 -- For each machine for which what is kept stood, the replies of a round are a run of it, to one for which it then
 -- stands; and the answer says the reader's place before it and after it, and the writer's last number before it.

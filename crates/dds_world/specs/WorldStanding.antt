@@ -4,6 +4,7 @@
 -- The network is this project's own; its peers behave by RTPS 2.5, 8.4, and their listeners by DDS 1.4, 2.2.4.3.
 use Rattle.std.specs.Prelude.{◌≡◌, ℕ, suc, ◌-◌, ◌^◌, ◌≤◌, List, length, get_or, slice_get, Some}
 use Rattle.dds_base.specs.declared.config.Config.{Config}
+use Rattle.dds_protocol.specs.Roster.{Roster, roster_of}
 use Rattle.dds_notices.specs.Listeners.{Places}
 use Rattle.dds_protocol.specs.Noticing.{world_ended}
 use Rattle.dds_protocol.specs.declared.event.Packet.{Packet}
@@ -38,27 +39,31 @@ pub record WorldKept (hearing : Hearing) : Type 0 where
 -- stand for what they were told, and know what was claimed to them alone; all that packets claim is
 -- true, and each packet is a message; what is counted as unsent keeps to its bound; the counts that were sent or taken
 -- were used by their senders; and no reader's place is past the end of a list.
-pub record StandsFor {hearing : Hearing} (kept : WorldKept hearing) (config : Config) (network : WorldState)
+pub record StandsFor {hearing : Hearing} (kept : WorldKept hearing) (roster : Roster) (network : WorldState)
     : Type 0 where
   pub count : length network.peers ≡ length kept.peers
   pub each : (i : ℕ) (k : PeerKept) → slice_get kept.peers i ≡ Some k
-      → CoreStandsFor k config (peer_at network (suc i))
-  pub known : (i : ℕ) (k : PeerKept) → slice_get kept.peers i ≡ Some k → IsSound config (peer_at network (suc i))
+      → CoreStandsFor k roster (peer_at network (suc i))
+  pub known : (i : ℕ) (k : PeerKept) → slice_get kept.peers i ≡ Some k → IsSound roster (peer_at network (suc i))
   pub filters : (i : ℕ) → (peer_at network (suc i)).part.dds.watch.filters ≡ get_or kept.filters i 0
   pub listened : length network.peers ≡ length kept.listeners
   pub listeners : (i : ℕ) (k : hearing.Kept) → slice_get kept.listeners i ≡ Some k
       → hearing.stands (suc i) k (peer_at network (suc i)).part.dds.listeners
   pub sent : network.sent ≡ kept.sent
-  pub sound : Sound config network
+  pub sound : Sound roster network
   pub messages : AreMessages kept.sent
   pub few : kept.unsent ≤ 2 ^ 64 - 1
-  pub used : HasUsedCounts config network
+  pub used : HasUsedCounts roster network
   pub bounded : IsBounded (machine_of network)
 
 -- A machine for which what a network keeps stands: its parts are those of the peers in a state for which it stands.
-abbrev pub MachineStands : {hearing : Hearing} → WorldKept hearing → Config → Machine → Type 0
-MachineStands kept config m =
-    (network : WorldState) × (machine_of network ≡ m) × StandsFor kept config network
+abbrev pub MachineStands : {hearing : Hearing} → WorldKept hearing → Roster → Machine → Type 0
+MachineStands kept roster m =
+    (network : WorldState) × (machine_of network ≡ m) × StandsFor kept roster network
+
+-- the same by the roster of a configuration
+abbrev pub MachineStandsIn : {hearing : Hearing} → WorldKept hearing → Config → Machine → Type 0
+MachineStandsIn kept config m = MachineStands kept (roster_of config) m
 
 -- the packets that were sent, and how many were not
 abbrev pub traffic : {hearing : Hearing} → WorldKept hearing → Traffic
@@ -69,15 +74,15 @@ traffic kept = record { sent = kept.sent; unsent = kept.unsent }
 -- the peers are the parts of; and the new network stands for the state at its end, once listeners were told.
 abbrev pub KeepsRules : {hearing : Hearing} → AllTests → WorldKept hearing → WorldEvent → Reply → WorldKept hearing
     → Type 0
-KeepsRules tests old event reply new = (config : Config) (network : WorldState) → StandsFor old config network
-    → (after : WorldState) × CountedStep config tests network old.unsent event reply after new.unsent
-    × StandsFor new config (world_ended network event after)
+KeepsRules tests old event reply new = (roster : Roster) (network : WorldState) → StandsFor old roster network
+    → (after : WorldState) × CountedStep roster tests network old.unsent event reply after new.unsent
+    × StandsFor new roster (world_ended network event after)
 
 -- For each state that the old network stood for, these replies to the events are a run of its peers by the rules of the
 -- protocol, and the new network stands for the state afterwards.
 pub record RunsByRules {hearing : Hearing} (tests : AllTests) (old : WorldKept hearing) (events : List WorldEvent)
     (replies : List Reply)
     (new : WorldKept hearing) : Type 0 where
-  pub run : (config : Config) (network : WorldState) → StandsFor old config network
-      → (after : WorldState) × RuledRun config tests network old.unsent events replies after new.unsent
-      × StandsFor new config after
+  pub run : (roster : Roster) (network : WorldState) → StandsFor old roster network
+      → (after : WorldState) × RuledRun roster tests network old.unsent events replies after new.unsent
+      × StandsFor new roster after

@@ -5,11 +5,11 @@
 ghost use Rattle.std.specs.Prelude.{◌≡◌, ℕ, ◌&&◌, ◌+◌, ◌-◌, ◌^◌, ◌<◌, ◌≤◌, false, nat_lt, nat_le, IfOk, IfErr, OnErr, MatchOption, length, map, slice_get, None, [], vec_len, vec_capacity};
 ghost use Rattle.std.specs.Option.{option_copied};
 ghost use Rattle.dds_base.specs.Checked.{check_refusal};
-ghost use Rattle.dds_base.specs.declared.config.Config.{Config as ConfigOf};
 ghost use Rattle.dds_base.specs.Refusal.{Refuses};
 ghost use Rattle.dds_base.specs.declared.code.Code.TheVariants.{Memory};
 ghost use Rattle.dds_notices.specs.Listeners.{ByEntity};
 ghost use Rattle.dds_machine.specs.declared.event.WorldEvent.TheVariants as event;
+ghost use Rattle.dds_protocol.specs.Roster.{Roster, roster_of};
 ghost use Rattle.dds_protocol.specs.Traffic.{no_traffic};
 ghost use Rattle.dds_machine.specs.Machine.{Machine, part_at, place_at};
 ghost use Rattle.dds_machine.specs.Part.{how_of, is_attached, own_proxies};
@@ -19,7 +19,7 @@ ghost use Rattle.dds_machine.specs.Numbered.{numbered};
 ghost use Rattle.dds_protocol.specs.Opening.{opening_world};
 ghost use Rattle.dds_core.specs.Opening.{opening_peer};
 ghost use Rattle.dds_core.specs.Listening.{StandsFor as CoreStandsFor, no_listeners};
-ghost use Rattle.dds_world.specs.WorldStanding.{traffic, KeepsRules, RunsByRules, StandsFor};
+ghost use Rattle.dds_world.specs.WorldStanding.{KeepsRules, MachineStands, RunsByRules, StandsFor, traffic};
 ghost use Rattle.dds_world.specs.Posting.{Posts};
 ghost use Rattle.dds_world.specs.Acting.{Counts, IsQuiet, OpensFirst};
 ghost use Rattle.dds_world.specs.Holding.{Adds, RefusesFilter, RefusesListener, Sets, MachineStandsFor, filters_of, kept_of, none_given, tests_by, tests_in};
@@ -93,7 +93,7 @@ fn open_peer<F: Filter, L: Listener>(
     requires few { length config.now.peers ≤ 16 }
     ensures opening { IfOk result
         (λ core. CoreStandsFor L.notices L.capacity L.becomes
-        (no_listeners (opening_peer config.now (index + 1)).part) core config.now
+        (no_listeners (opening_peer config.now (index + 1)).part) core (roster_of config.now)
         (opening_peer config.now (index + 1))) }
     ensures none { IfOk result (λ core. core.filtered.filters ≡ []) }
     ensures taken { IfOk result (λ core. check_refusal config.now.peers ≡ None) }
@@ -148,7 +148,7 @@ impl<F: Filter, L: Listener> World<F, L> {
         // Its peers are at their opening too, and know nothing.
         ensures rules { IfOk result
             (λ world. StandsFor (kept_of L.notices L.capacity L.becomes (none_given (opening config.now)) world)
-            config.now (opening_world config.now)) }
+            (roster_of config.now) (opening_world config.now)) }
         // No peer has a filter.
         ensures none { IfOk result
             (λ world. (peer : ℕ) → numbered (filters_of world) peer [] ≡ []) }
@@ -417,8 +417,8 @@ impl<F: Filter, L: Listener> World<F, L> {
     /// RTPS 2.5, 8.4.10 (StatefulReader, WriterProxy).
     pub fn place(&self, reader: Endpoint, writer: Endpoint) -> Option<Sn>
         // It is the place in each machine that the network stands for, and there is one exactly if the writer is known.
-        ensures place { (given : ℕ → ByEntity L) (config : ConfigOf) (m : Machine)
-            → MachineStandsFor L.notices L.capacity L.becomes given self.now config m
+        ensures place { (given : ℕ → ByEntity L) (roster : Roster) (m : Machine)
+            → MachineStands (kept_of L.notices L.capacity L.becomes given self.now) roster m
             → result ≡ place_at m reader writer }
     {
         let Some(index) = index_of_peer(reader.peer, self.count()) else {
@@ -432,8 +432,8 @@ impl<F: Filter, L: Listener> World<F, L> {
     /// RTPS 2.5, 8.4.10 (StatefulReader: matched_writers).
     pub fn is_matched(&self, reader: Endpoint, writer: Endpoint) -> bool
         // So it is in each machine that the network stands for.
-        ensures matched { (given : ℕ → ByEntity L) (config : ConfigOf) (m : Machine)
-            → MachineStandsFor L.notices L.capacity L.becomes given self.now config m
+        ensures matched { (given : ℕ → ByEntity L) (roster : Roster) (m : Machine)
+            → MachineStands (kept_of L.notices L.capacity L.becomes given self.now) roster m
             → result
             ≡ is_attached (how_of (own_proxies (part_at m reader.peer) reader.number) writer) }
     {

@@ -5,7 +5,7 @@ use Rattle.dds_base.specs.declared.config.WriterConfig.{WriterConfig}
 use Rattle.dds_base.specs.declared.config.ReaderConfig.{ReaderConfig}
 use Rattle.dds_ends.specs.OpeningEnds.{OpensReader, OpensWriter}
 use Rattle.dds_core.specs.OpeningEnds.{OpensEach}
-use Rattle.dds_protocol.proofs.Rosters.{configs_are_rosters}
+use Rattle.dds_protocol.proofs.Rosters.{configs_are_good}
 use Rattle.dds_core.proofs.Limited.{few_ends}
 use Rattle.dds_core.proofs.OpeningLaws.{opens_as, opens_core}
 use Rattle.dds_core.proofs.opening.open.Goals as goal
@@ -17,7 +17,7 @@ invariant_of-result c =
     slice_get-get_or c.args.peers.now c.args.index own c.requires.within
     ∙ ap (λ (p : PeerConfig). Some p) (sym c.index-peers-index.is) in
     let few =
-    few_ends c.args.peers.now (configs_are_rosters (record { peers = c.args.peers.now }) c.requires.checked) c.args.index
+    few_ends c.args.peers.now (configs_are_good (record { peers = c.args.peers.now }) c.requires.checked) c.args.index
     own at in
     let writers =
     c.in_ok-writers.ensures.count ∙ ap (λ (ws : List WriterConfig). length ws) c.as_slice.ensures.elements in

@@ -6,6 +6,6 @@ use Rattle.dds_core.proofs.filtered_peer.FilteredPeer.moment.Goals as goal
 pub returns : goal.returns
 returns g c = record {
   moment =
-      λ config peer s. c.moment.ensures.moment config peer
-      (subst (λ (k : FilteredKept g.row.F.Denot). PeerStandsFor k.peer config peer) (sym c.self.view_is) s);
+      λ roster peer s. c.moment.ensures.moment roster peer
+      (subst (λ (k : FilteredKept g.row.F.Denot). PeerStandsFor k.peer roster peer) (sym c.self.view_is) s);
 }

@@ -6,6 +6,6 @@ use Rattle.dds_core.proofs.filtered_peer.FilteredPeer.observe.Goals as goal
 pub returns : goal.returns
 returns g c = record {
   observes =
-      λ config peer s. c.observe.ensures.observes config peer
-      (subst (λ (k : FilteredKept g.row.F.Denot). PeerStandsFor k.peer config peer) (sym c.self.view_is) s);
+      λ roster peer s. c.observe.ensures.observes roster peer
+      (subst (λ (k : FilteredKept g.row.F.Denot). PeerStandsFor k.peer roster peer) (sym c.self.view_is) s);
 }

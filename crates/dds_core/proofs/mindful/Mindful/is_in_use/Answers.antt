@@ -5,7 +5,7 @@ use Rattle.dds_core.proofs.mindful.Mindful.is_in_use.Goals as goal
 
 pub returns : goal.returns
 returns g c = record {
-  used = λ config peer s. c.is_in_use.ensures.used config peer
-      (subst (λ (k : CoreKept g.row.F.Denot g.row.L.Denot). PeerStandsFor k.filtered.peer config peer)
+  used = λ roster peer s. c.is_in_use.ensures.used roster peer
+      (subst (λ (k : CoreKept g.row.F.Denot g.row.L.Denot). PeerStandsFor k.filtered.peer roster peer)
       (sym c.self.view_is) s);
 }

@@ -1,10 +1,9 @@
-use Rattle.std.proofs.Common.{◌≡◌, ℕ, ◌+◌, ◌<◌, ◌≤◌, Bool, true, List, [], ◌∷◌, ◌++◌, cond, length, take, get_or, Result, Ok, Err, IfOk, IfErr, ap, sym, ◌∙◌}
+use Rattle.std.proofs.Common.{◌≡◌, ℕ, ◌+◌, ◌<◌, ◌≤◌, Bool, true, List, [], ◌∷◌, ◌++◌, cond, length, take, get_or, Result, Ok, Err, IfErr, ap, sym, ◌∙◌}
 use Rattle.std.specs.List.{list_any}
 use Rattle.std.proofs.lemmas.List.{append-nil, take_all}
 use Rattle.std.proofs.lemmas.List.Folds.{list_any_at}
 use Rattle.std.proofs.lemmas.List.Elements.{filter_more}
-use Rattle.dds_base.specs.declared.code.Code.{Code}
-use Rattle.dds_base.specs.declared.config.Config.{Config}
+use Rattle.dds_protocol.specs.Roster.{Roster}
 use Rattle.dds_base.specs.declared.entity.Entity.TheVariants.{Participant}
 use Rattle.dds_conditions.specs.declared.condition.Cond.{Cond}
 use Rattle.dds_conditions.specs.declared.condition.Cond.TheVariants.{Status}
@@ -34,7 +33,7 @@ if_refused (Err e) p = p
 pub loop-condition-preserved : goal.loop-condition-preserved
 loop-condition-preserved g c = record {
   right = c.trigger_of.ensures.right;
-  found = λ config peer given.
+  found = λ roster peer given.
       let cs = c.attached-condition-items.result.now in
       let i = c.loop-condition.condition-index in
       let k : Cond = get_or cs i (Status Participant) in
@@ -42,7 +41,7 @@ loop-condition-preserved g c = record {
       let answer = c.trigger_of.result in
       let tests : Tests = g.T.Filters.meaning c.args.filters.now in
       let more = found (trigger_value tests peer.part) cs i (Status Participant) active answer c.loop-condition-test.true
-      (c.loop-condition.invariant.found config peer given) (c.trigger_of.ensures.value config peer given) in
+      (c.loop-condition.invariant.found roster peer given) (c.trigger_of.ensures.value roster peer given) in
       elim c.if-trigger_of.branch [
         | then-trigger_of+in_ok-push w ↦
             ap (λ v. v.items) w.active-is
@@ -58,24 +57,24 @@ loop-condition-preserved g c = record {
 -- so it is of what was answered, whoever stands for it
 answered : (tests : Tests) (wait_set : ℕ) (kept : PeerKept) (active cs : List Cond) (i : ℕ)
     → length cs ≤ i → cs ≡ conditions_of kept.watch wait_set
-    → ((config : Config) (peer : Peer) → StandsFor kept config peer
+    → ((roster : Roster) (peer : Peer) → StandsFor kept roster peer
     → active ≡ active_of (trigger_value tests peer.part) (take i cs))
     → AreActive tests kept wait_set active
-answered tests wait_set kept active cs i past are tells = λ config peer s.
-    tells config peer s
+answered tests wait_set kept active cs i past are tells = λ roster peer s.
+    tells roster peer s
     ∙ (ap (λ (xs : List Cond). active_of (trigger_value tests peer.part) xs) (take_all i cs past ∙ are)
     ∙ ap (λ (w : Watched). active_of (trigger_value tests peer.part) (conditions_of w wait_set)) (sym s.watch))
 
 -- and of a refusal, that one is true
 refused : (tests : Tests) (wait_set : ℕ) (kept : PeerKept) (cs : List Cond) (i : ℕ) (d : Cond)
     → i < length cs → cs ≡ conditions_of kept.watch wait_set
-    → ((config : Config) (peer : Peer) → StandsFor kept config peer
+    → ((roster : Roster) (peer : Peer) → StandsFor kept roster peer
     → trigger_value tests peer.part (get_or cs i d) ≡ true)
     → TellsActive tests kept wait_set true
-refused tests wait_set kept cs i d within are tells = λ config peer s.
+refused tests wait_set kept cs i d within are tells = λ roster peer s.
     sym (ap (λ (w : Watched). list_any (trigger_value tests peer.part) (conditions_of w wait_set)) s.watch
     ∙ (ap (λ (xs : List Cond). list_any (trigger_value tests peer.part) xs) (sym are)
-    ∙ list_any_at (trigger_value tests peer.part) cs i d within (tells config peer s)))
+    ∙ list_any_at (trigger_value tests peer.part) cs i d within (tells roster peer s)))
 
 pub returns-in_err-push-clause-some : goal.returns-in_err-push-clause-some
 returns-in_err-push-clause-some g c =
@@ -86,7 +85,7 @@ returns-in_err-push-clause-some g c =
     c.loop-condition-test.true
     (c.attached-condition-items.ensures.conditions
     ∙ ap (λ (k : PeerKept). conditions_of k.watch c.args.wait_set) c.self.view_is)
-    (λ config peer given. sym (c.trigger_of.ensures.value config peer given) ∙ c.if-trigger_of.true))
+    (λ roster peer given. sym (c.trigger_of.ensures.value roster peer given) ∙ c.if-trigger_of.true))
 
 pub returns-clause-ok : goal.returns-clause-ok
 returns-clause-ok g c =
@@ -96,4 +95,4 @@ returns-clause-ok g c =
     c.loop-condition-test.false
     (c.attached-condition-items.ensures.conditions
     ∙ ap (λ (k : PeerKept). conditions_of k.watch c.args.wait_set) c.self.view_is)
-    (λ config peer given. c.from_vec.ensures.elements ∙ c.loop-condition.invariant.found config peer given)
+    (λ roster peer given. c.from_vec.ensures.elements ∙ c.loop-condition.invariant.found roster peer given)

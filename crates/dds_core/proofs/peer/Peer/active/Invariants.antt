@@ -1,6 +1,6 @@
 -- those that were asked so far, and are true, are found
 use Rattle.std.proofs.Common.{◌≡◌, take}
-use Rattle.dds_base.specs.declared.config.Config.{Config}
+use Rattle.dds_protocol.specs.Roster.{Roster}
 use Rattle.dds_conditions.specs.Attached.{active_of}
 use Rattle.dds_machine.specs.Watching.{trigger_value}
 use Rattle.dds_protocol.specs.Peer.{Peer}
@@ -11,7 +11,7 @@ use Rattle.dds_core.proofs.peer.Peer.active.Given as goal
 abbrev pub invariant-loop-condition : goal.invariant-loop-condition
 invariant-loop-condition g l = record {
   right : AreMisses (g.T.Filters.meaning l.filters) l.self l.misses;
-  found : (config : Config) (peer : Peer) → StandsFor l.self config peer
+  found : (roster : Roster) (peer : Peer) → StandsFor l.self roster peer
       → l.active.items ≡ active_of (trigger_value (g.T.Filters.meaning l.filters) peer.part)
       (take l.condition-index l.condition-items);
 }

@@ -14,23 +14,23 @@ told c =
     (sym c.from_vec.ensures.elements) c.in-Ok.ensures.tells
 
 pub returns-in-Ok-clause-step : goal.returns-in-Ok-clause-step
-returns-in-Ok-clause-step c = λ config peer given.
+returns-in-Ok-clause-step c = λ roster peer given.
     let within : c.in-Some.index < length c.self.inside.writers.items = search rules in
-    asserts_at _ c.args.writer c.in-Some.index c.index_mut.result.now c.assert.new.self config peer
+    asserts_at _ c.args.writer c.in-Some.index c.index_mut.result.now c.assert.new.self roster peer
     (still_stands c.self.view_is given) c.in-Some.ensures.index.0
     (slice_get_read _ _ _ _ refl within c.index_mut.ensures.value) within c.in-Ok.ensures.ok _ _ (told c)
 
 pub returns-in-Ok-clause-sends : goal.returns-in-Ok-clause-sends
-returns-in-Ok-clause-sends c = λ config peer given.
+returns-in-Ok-clause-sends c = λ roster peer given.
     let within : c.in-Some.index < length c.self.inside.writers.items = search rules in
-    asserts_sends _ c.args.writer c.in-Some.index c.index_mut.result.now config peer
+    asserts_sends _ c.args.writer c.in-Some.index c.index_mut.result.now roster peer
     (still_stands c.self.view_is given) c.in-Some.ensures.index.0
     (slice_get_read _ _ _ _ refl within c.index_mut.ensures.value) _ _ (told c)
 
 pub returns-in-Err-clause-step : goal.returns-in-Err-clause-step
-returns-in-Err-clause-step c = λ config peer given.
+returns-in-Err-clause-step c = λ roster peer given.
     let within : c.in-Some.index < length c.self.inside.writers.items = search rules in
-    follows_as _ config peer _ _ _ c.refused-in-Err.ensures
-    (refuses_at _ c.args.writer c.in-Some.index c.index_mut.result.now c.assert.new.self c.in-Err.code config peer
+    follows_as _ roster peer _ _ _ c.refused-in-Err.ensures
+    (refuses_at _ c.args.writer c.in-Some.index c.index_mut.result.now c.assert.new.self c.in-Err.code roster peer
     (still_stands c.self.view_is given) c.in-Some.ensures.index.0
     (slice_get_read _ _ _ _ refl within c.index_mut.ensures.value) within c.in-Err.ensures.refused c.in-Err.ensures.err)

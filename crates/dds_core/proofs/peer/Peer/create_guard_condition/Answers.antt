@@ -9,13 +9,13 @@ use Rattle.dds_core.proofs.Watched.{given_in_memory}
 use Rattle.dds_core.proofs.peer.Peer.create_guard_condition.Goals as goal
 
 pub returns-clause-step : goal.returns-clause-step
-returns-clause-step c = λ config peer given.
+returns-clause-step c = λ roster peer given.
     let s = still_stands c.self.view_is given in
-    follows_as _ config peer _ _ _ c.answered.ensures
+    follows_as _ roster peer _ _ _ c.answered.ensures
     (given_in_memory (λ n. Created n) made_reply (λ n. refl) (λ code. refl) (λ w. true)
     (λ w. number_refusal w.conditions)
     (λ w. length w.conditions + 1) (λ w. with_condition w (Guard false)) _
-    c.create-made.new.self c.create-made.result c.reply_to_made.result config peer s call.CreateGuardCondition
+    c.create-made.new.self c.create-made.result c.reply_to_made.result roster peer s call.CreateGuardCondition
     (λ dds h. h) refl c.reply_to_made.ensures
     c.create-made.ensures.ok c.create-made.ensures.number c.create-made.ensures.taken
     c.create-made.ensures.refused (λ needless. absurd cc) c.create-made.ensures.err)

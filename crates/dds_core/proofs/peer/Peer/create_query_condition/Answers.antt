@@ -15,7 +15,7 @@ use Rattle.dds_core.proofs.Watched.{given_in_memory}
 use Rattle.dds_core.proofs.peer.Peer.create_query_condition.Goals as goal
 
 pub returns-clause-step : goal.returns-clause-step
-returns-clause-step c = λ config peer given.
+returns-clause-step c = λ roster peer given.
     let s = still_stands c.self.view_is given in
     let within : c.in-Some._reader < length c.self.inside.readers.items = search rules in
     let known : has_element peer.part.dds.readers c.args.reader ≡ true =
@@ -27,12 +27,12 @@ returns-clause-step c = λ config peer given.
     ≡ number_refusal peer.part.dds.watch.conditions =
     ap (λ (b : Bool). if b then read_condition_refusal peer.part c.args.reader else Some BadParameter) there
     ∙ ap (λ (b : Bool). if not b then Some BadParameter else number_refusal peer.part.dds.watch.conditions) known in
-    follows_as _ config peer _ _ _ c.answered.ensures
+    follows_as _ roster peer _ _ _ c.answered.ensures
     (given_in_memory (λ n. Created n) made_reply (λ n. refl) (λ code. refl) (λ w. true)
     (λ w. number_refusal w.conditions)
     (λ w. length w.conditions + 1) (λ w. with_condition w (Samples c.args.reader c.args.masks (Some c.args.filter)))
     _
-    c.create-made.new.self c.create-made.result c.reply_to_made.result config peer s
+    c.create-made.new.self c.create-made.result c.reply_to_made.result roster peer s
     (call.CreateQueryCondition c.args.reader c.args.masks c.args.filter)
     (λ dds h. subst (λ (o : Option Code). IsAnsweredInMemory true o
     (Created (length peer.part.dds.watch.conditions + 1))

@@ -14,16 +14,16 @@ use Rattle.dds_core.proofs.Watched.{given_in_memory}
 use Rattle.dds_core.proofs.peer.Peer.create_read_condition.Goals as goal
 
 pub returns-clause-step : goal.returns-clause-step
-returns-clause-step c = λ config peer given.
+returns-clause-step c = λ roster peer given.
     let s = still_stands c.self.view_is given in
     let within : c.in-Some._index < length c.self.inside.readers.items = search rules in
     let known : has_element peer.part.dds.readers c.args.reader ≡ true =
     known_end peer.part.dds.readers c.args.reader c.in-Some._index _ c.in-Some.ensures.index.0 within s.readers.count in
-    follows_as _ config peer _ _ _ c.answered.ensures
+    follows_as _ roster peer _ _ _ c.answered.ensures
     (given_in_memory (λ n. Created n) made_reply (λ n. refl) (λ code. refl) (λ w. true)
     (λ w. number_refusal w.conditions)
     (λ w. length w.conditions + 1) (λ w. with_condition w (Samples c.args.reader c.args.masks None)) _
-    c.create-made.new.self c.create-made.result c.reply_to_made.result config peer s
+    c.create-made.new.self c.create-made.result c.reply_to_made.result roster peer s
     (call.CreateReadCondition c.args.reader c.args.masks)
     (λ dds h. subst (λ (o : Option Code). IsAnsweredInMemory true o
     (Created (length peer.part.dds.watch.conditions + 1))

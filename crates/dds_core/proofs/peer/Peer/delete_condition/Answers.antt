@@ -8,11 +8,11 @@ use Rattle.dds_core.proofs.Watched.{done_call}
 use Rattle.dds_core.proofs.peer.Peer.delete_condition.Goals as goal
 
 pub returns-clause-step : goal.returns-clause-step
-returns-clause-step c = λ config peer given.
+returns-clause-step c = λ roster peer given.
     let s = still_stands c.self.view_is given in
-    follows_as _ config peer _ _ _ c.answered.ensures
+    follows_as _ roster peer _ _ _ c.answered.ensures
     (done_call (λ w. unless_there (is_some (at_number w.conditions c.args.condition)))
     (λ w. without_condition w c.args.condition) _
-    c.delete-done.new.self c.delete-done.result c.reply_to.result config peer s (call.DeleteCondition c.args.condition)
+    c.delete-done.new.self c.delete-done.result c.reply_to.result roster peer s (call.DeleteCondition c.args.condition)
     (λ dds h. h) refl c.reply_to.ensures
     c.delete-done.ensures.ok c.delete-done.ensures.taken c.delete-done.ensures.refused c.delete-done.ensures.err)

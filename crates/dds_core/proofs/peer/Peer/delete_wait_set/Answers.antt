@@ -7,11 +7,11 @@ use Rattle.dds_core.proofs.Watched.{done_call}
 use Rattle.dds_core.proofs.peer.Peer.delete_wait_set.Goals as goal
 
 pub returns-clause-step : goal.returns-clause-step
-returns-clause-step c = λ config peer given.
+returns-clause-step c = λ roster peer given.
     let s = still_stands c.self.view_is given in
-    follows_as _ config peer _ _ _ c.answered.ensures
+    follows_as _ roster peer _ _ _ c.answered.ensures
     (done_call (λ w. free_refusal (at_number w.wait_sets c.args.wait_set)) (λ w. with_wait_set_at w c.args.wait_set None) _
-    c.delete_wait_set-done.new.self c.delete_wait_set-done.result c.reply_to.result config peer s
+    c.delete_wait_set-done.new.self c.delete_wait_set-done.result c.reply_to.result roster peer s
     (call.DeleteWaitSet c.args.wait_set) (λ dds h. h) refl c.reply_to.ensures
     c.delete_wait_set-done.ensures.ok c.delete_wait_set-done.ensures.taken c.delete_wait_set-done.ensures.refused
     c.delete_wait_set-done.ensures.err)

@@ -21,17 +21,17 @@ made c =
     c.make.new.self) (c.from_vec-none.ensures.octets ∙ c.new.ensures.items) c.make.ensures.makes
 
 pub returns-clause-step : goal.returns-clause-step
-returns-clause-step c = λ config peer s.
+returns-clause-step c = λ roster peer s.
     let makes =
-    dispose_at c.args.self.now c.args.writer c.in-Some.index c.args.key config peer s c.in-Some.ensures.index.0
+    dispose_at c.args.self.now c.args.writer c.in-Some.index c.args.key roster peer s c.in-Some.ensures.index.0
     (search rules) in
-    made_steps c.args.self.now c.make.new.self config peer s
-    (call.Dispose c.args.writer c.args.key) _ _ c.make.result makes (made c config peer s)
+    made_steps c.args.self.now c.make.new.self roster peer s
+    (call.Dispose c.args.writer c.args.key) _ _ c.make.result makes (made c roster peer s)
 
 pub returns-clause-sends : goal.returns-clause-sends
-returns-clause-sends c = λ config peer s.
+returns-clause-sends c = λ roster peer s.
     let makes =
-    dispose_at c.args.self.now c.args.writer c.in-Some.index c.args.key config peer s c.in-Some.ensures.index.0
+    dispose_at c.args.self.now c.args.writer c.in-Some.index c.args.key roster peer s c.in-Some.ensures.index.0
     (search rules) in
-    made_sends c.make.new.self config peer (call.Dispose c.args.writer c.args.key) _ _ c.make.result makes
-    (made c config peer s)
+    made_sends c.make.new.self roster peer (call.Dispose c.args.writer c.args.key) _ _ c.make.result makes
+    (made c roster peer s)

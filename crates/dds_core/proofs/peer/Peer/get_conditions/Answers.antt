@@ -17,13 +17,13 @@ none-there (x ∷ xs) e =
     absurd (let some : nat_lt 0 (suc (length xs)) ≡ true = lt-ltb 0 (suc (length xs)) (omega arith) in cc)
 
 pub returns-clause-step : goal.returns-clause-step
-returns-clause-step c = λ config peer given.
-    follows_as _ config peer _ _ _ c.answered.ensures
+returns-clause-step c = λ roster peer given.
+    follows_as _ roster peer _ _ _ c.answered.ensures
     (given_in_memory (λ cs. Conditions cs) conditions_reply (λ cs. refl) (λ code. refl)
     (λ w. nat_lt 0 (length (conditions_of w c.args.wait_set)))
     (λ w. unless_there (is_some (at_number w.wait_sets c.args.wait_set)))
     (λ w. conditions_of w c.args.wait_set)
-    (λ w. w) _ _ c.conditions-conditions.result c.reply_to_conditions.result config peer given
+    (λ w. w) _ _ c.conditions-conditions.result c.reply_to_conditions.result roster peer given
     (call.GetConditions c.args.wait_set) (λ dds h. h) refl c.reply_to_conditions.ensures
     (on_ok c.conditions-conditions.result refl) c.conditions-conditions.ensures.ok c.conditions-conditions.ensures.taken
     c.conditions-conditions.ensures.refused

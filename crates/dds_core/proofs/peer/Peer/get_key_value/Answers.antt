@@ -8,21 +8,21 @@ use Rattle.dds_core.proofs.Asking.{key_told, key_not_told}
 use Rattle.dds_core.proofs.peer.Peer.get_key_value.Goals as goal
 
 pub returns-in-Some-key_value-clause-step : goal.returns-in-Some-key_value-clause-step
-returns-in-Some-key_value-clause-step c = λ config peer given.
+returns-in-Some-key_value-clause-step c = λ roster peer given.
     let within : c.in-Some.index < length c.self.inside.readers.items = search rules in
-    subst (λ (k : PeerKept). Follows k config peer
+    subst (λ (k : PeerKept). Follows k roster peer
     (event.Call (call.GetKeyValue c.args.reader c.args.instance)) c.answered.result) c.self.view_is
-    (follows_as _ config peer _ _ _ c.answered.ensures
-    (key_told _ config peer c.args.reader c.in-Some.index c.index.result.now c.args.instance c.in-Some-key_value.key
+    (follows_as _ roster peer _ _ _ c.answered.ensures
+    (key_told _ roster peer c.args.reader c.in-Some.index c.index.result.now c.args.instance c.in-Some-key_value.key
     (still_stands c.self.view_is given) c.in-Some.ensures.index.0 within
     (slice_get_read _ _ _ _ refl within c.index.ensures) c.in-Some-key_value.ensures))
 
 pub returns-in-None-clause-step : goal.returns-in-None-clause-step
-returns-in-None-clause-step c = λ config peer given.
+returns-in-None-clause-step c = λ roster peer given.
     let within : c.in-Some.index < length c.self.inside.readers.items = search rules in
-    subst (λ (k : PeerKept). Follows k config peer
+    subst (λ (k : PeerKept). Follows k roster peer
     (event.Call (call.GetKeyValue c.args.reader c.args.instance)) c.refused-in-None.result) c.self.view_is
-    (follows_as _ config peer _ _ _ c.refused-in-None.ensures
-    (key_not_told _ config peer c.args.reader c.in-Some.index c.index.result.now c.args.instance
+    (follows_as _ roster peer _ _ _ c.refused-in-None.ensures
+    (key_not_told _ roster peer c.args.reader c.in-Some.index c.index.result.now c.args.instance
     (still_stands c.self.view_is given) c.in-Some.ensures.index.0 within
     (slice_get_read _ _ _ _ refl within c.index.ensures) c.in-None.ensures))

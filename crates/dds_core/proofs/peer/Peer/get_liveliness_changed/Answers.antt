@@ -5,12 +5,12 @@ use Rattle.dds_core.proofs.Looked.{looked_at_liveliness}
 use Rattle.dds_core.proofs.peer.Peer.get_liveliness_changed.Goals as goal
 
 pub returns-clause-step : goal.returns-clause-step
-returns-clause-step c = λ config peer given.
+returns-clause-step c = λ roster peer given.
     let within : c.in-Some.index < length c.self.inside.readers.items = search rules in
-    follows_as _ config peer _ _ _ c.answered.ensures
+    follows_as _ roster peer _ _ _ c.answered.ensures
     (looked_at_liveliness _ c.args.reader c.in-Some.index c.index_mut.result.now
     c.get_liveliness_changed-status.new.self
-    c.get_liveliness_changed-status.result c.get_liveliness_changed-status.new.self.seen config peer
+    c.get_liveliness_changed-status.result c.get_liveliness_changed-status.new.self.seen roster peer
     (still_stands c.self.view_is given) c.in-Some.ensures.index.0 within
     (slice_get_read _ _ _ _ refl within c.index_mut.ensures.value) c.get_liveliness_changed-status.ensures.status
     c.get_liveliness_changed-status.ensures.seen)

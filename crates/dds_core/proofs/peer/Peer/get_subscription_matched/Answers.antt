@@ -5,11 +5,11 @@ use Rattle.dds_core.proofs.MatchedWriters.{looked_at_matches}
 use Rattle.dds_core.proofs.peer.Peer.get_subscription_matched.Goals as goal
 
 pub returns-clause-step : goal.returns-clause-step
-returns-clause-step c = λ config peer given.
+returns-clause-step c = λ roster peer given.
     let within : c.in-Some.index < length c.self.inside.readers.items = search rules in
-    follows_as _ config peer _ _ _ c.answered.ensures
+    follows_as _ roster peer _ _ _ c.answered.ensures
     (looked_at_matches _ c.args.reader c.in-Some.index c.index_mut.result.now
-    c.get_subscription_matched-status.new.self c.get_subscription_matched-status.result config peer
+    c.get_subscription_matched-status.new.self c.get_subscription_matched-status.result roster peer
     (still_stands c.self.view_is given) c.in-Some.ensures.index.0
     (slice_get_read _ _ _ _ refl within c.index_mut.ensures.value) c.get_subscription_matched-status.ensures.status
     c.get_subscription_matched-status.ensures.seen)

@@ -8,11 +8,11 @@ use Rattle.dds_core.proofs.Watched.{told_call}
 use Rattle.dds_core.proofs.peer.Peer.get_trigger_value.Goals as goal
 
 pub returns-clause-step : goal.returns-clause-step
-returns-clause-step g c = λ config peer given.
+returns-clause-step g c = λ roster peer given.
     let tests = g.T.Filters.meaning c.args.filters.now in
-    follows_as _ config peer _ _ _ c.answered.ensures
-    (told_call _ config peer given (unless_there (knows peer.part.dds.watch c.args.condition))
+    follows_as _ roster peer _ _ _ c.answered.ensures
+    (told_call _ roster peer given (unless_there (knows peer.part.dds.watch c.args.condition))
     (TriggerValue (trigger_value tests peer.part c.args.condition))
     (call.GetTriggerValue c.args.condition) (TriggerValue c.trigger_of-value.result) (λ dds h. h) refl
     (ap (λ (w : Watched). unless_there (knows w c.args.condition)) given.watch ∙ search rules)
-    (ap (λ (b : Bool). TriggerValue b) (c.trigger_of-value.ensures.value config peer given)))
+    (ap (λ (b : Bool). TriggerValue b) (c.trigger_of-value.ensures.value roster peer given)))

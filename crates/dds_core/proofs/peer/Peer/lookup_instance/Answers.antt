@@ -8,11 +8,11 @@ use Rattle.dds_core.proofs.Asking.{handle_told}
 use Rattle.dds_core.proofs.peer.Peer.lookup_instance.Goals as goal
 
 pub returns-clause-step : goal.returns-clause-step
-returns-clause-step c = λ config peer given.
+returns-clause-step c = λ roster peer given.
     let within : c.in-Some.index < length c.self.inside.readers.items = search rules in
-    subst (λ (k : PeerKept). Follows k config peer
+    subst (λ (k : PeerKept). Follows k roster peer
     (event.Call (call.LookupInstance c.args.reader c.args.key)) c.answered.result) c.self.view_is
-    (follows_as _ config peer _ _ _ c.answered.ensures
-    (handle_told _ config peer c.args.reader c.in-Some.index c.index.result.now c.args.key c.lookup-handle.result
+    (follows_as _ roster peer _ _ _ c.answered.ensures
+    (handle_told _ roster peer c.args.reader c.in-Some.index c.index.result.now c.args.key c.lookup-handle.result
     (still_stands c.self.view_is given) c.in-Some.ensures.index.0 within
     (slice_get_read _ _ _ _ refl within c.index.ensures) c.lookup-handle.ensures))

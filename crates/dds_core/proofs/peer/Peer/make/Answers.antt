@@ -29,29 +29,29 @@ append-requires c = record {
 }
 
 pub returns-in-Err-clause-makes : goal.returns-in-Err-clause-makes
-returns-in-Err-clause-makes c = λ config peer given.
-    inr (subst (λ (x : PeerKept). IsNotMade config peer (c.args.index + 1)
+returns-in-Err-clause-makes c = λ roster peer given.
+    inr (subst (λ (x : PeerKept). IsNotMade roster peer (c.args.index + 1)
     (change_made peer.part (c.args.index + 1) c.args.kind c.args.key c.args.value) c.refused.result x) c.self.view_is
     (not_begun _ c.args.index c.index-writer.result.now c.args.kind c.args.key c.args.value
-    c.strength.result c.in-Err.code c.refused.result config peer (still_stands c.self.view_is given)
+    c.strength.result c.in-Err.code c.refused.result roster peer (still_stands c.self.view_is given)
     (writer_at c.self.view_is c.requires.within c.index-writer.ensures) c.strength.ensures c.in-Err.ensures.refused c.refused.ensures))
 
 pub returns-in-Err-append-clause-makes : goal.returns-in-Err-append-clause-makes
-returns-in-Err-append-clause-makes c = λ config peer given.
+returns-in-Err-append-clause-makes c = λ roster peer given.
     let k : WriterKept = c.index-writer.result.now in
     let same : c.index_mut.result.now ≡ k =
     same_Some c.index_mut.result.now k
     (sym (writer_at c.self.view_is c.requires.within c.index_mut.ensures.value)
     ∙ writer_at c.self.view_is c.requires.within c.index-writer.ensures) in
     inr (not_made _ c.args.index c.index_mut.result.now c.append.new.self c.args.kind c.args.key c.args.value
-    c.strength.result c.in-Err-append.code c.refused-in-Err-append.result config peer
+    c.strength.result c.in-Err-append.code c.refused-in-Err-append.result roster peer
     (still_stands c.self.view_is given)
     (writer_at c.self.view_is c.requires.within c.index_mut.ensures.value)
     (subst (λ (x : WriterKept). Carries x c.strength.result) (sym same) c.strength.ensures) c.in-Err-append.ensures.err
     c.in-Err-append.ensures.refused c.refused-in-Err-append.ensures)
 
 pub returns-clause-makes : goal.returns-clause-makes
-returns-clause-makes c = λ config peer given.
+returns-clause-makes c = λ roster peer given.
     let k : WriterKept = c.index-writer.result.now in
     let change : Change = made_by c.args.kind c.args.key c.args.value c.self.inside.moment c.strength.result in
     let at = writer_at c.self.view_is c.requires.within c.index-writer.ensures in
@@ -59,7 +59,7 @@ returns-clause-makes c = λ config peer given.
     same_Some c.index_mut.result.now k
     (sym (writer_at c.self.view_is c.requires.within c.index_mut.ensures.value) ∙ at) in
     inl (made _ c.args.index k c.append.new.self c.args.kind c.args.key c.args.value
-    c.strength.result c.in-Ok.number _ config peer (still_stands c.self.view_is given) at c.strength.ensures
+    c.strength.result c.in-Ok.number _ roster peer (still_stands c.self.view_is given) at c.strength.ensures
     (subst (λ (x : WriterKept). Enters x (Changed change) c.append.new.self) same c.in_default.ensures.ok)
     c.in-Ok.ensures.accepted c.requires.empty refl
     (subst (λ (ps : List Packet). length ps + c.announce-announced.result.unsent ≡ length k.destinations)

@@ -10,43 +10,43 @@ use Rattle.dds_core.proofs.MatchedWriters.{matched_already, matches_writer, met_
 use Rattle.dds_core.proofs.peer.Peer.match_writer.Goals as goal
 
 pub returns-in_default-clause-step : goal.returns-in_default-clause-step
-returns-in_default-clause-step c = λ config peer given.
+returns-in_default-clause-step c = λ roster peer given.
     let none : is_number c.args.reader (length c.self.inside.readers.items) ≡ false =
     subst (λ (n : ℕ). is_number c.args.reader n ≡ false) (c.len.ensures ∙ c.self.inside.readers.ok.0)
     c.in_default.ensures.index in
-    subst (λ (k : PeerKept). Follows k config peer (event.Call (call.MatchWriter c.args.reader c.args.writer)) c.refused.result)
+    subst (λ (k : PeerKept). Follows k roster peer (event.Call (call.MatchWriter c.args.reader c.args.writer)) c.refused.result)
     c.self.view_is
-    (follows_as _ config peer _ _ _ c.refused.ensures
-    (no_reader_matched _ config peer c.args.reader c.args.writer (still_stands c.self.view_is given) none))
+    (follows_as _ roster peer _ _ _ c.refused.ensures
+    (no_reader_matched _ roster peer c.args.reader c.args.writer (still_stands c.self.view_is given) none))
 
 pub returns-in_default-writer_row_among-clause-step : goal.returns-in_default-writer_row_among-clause-step
-returns-in_default-writer_row_among-clause-step c = λ config peer given.
+returns-in_default-writer_row_among-clause-step c = λ roster peer given.
     let within : c.in-Some.index < length c.self.inside.readers.items = search rules in
-    subst (λ (k : PeerKept). Follows k config peer (event.Call (call.MatchWriter c.args.reader c.args.writer)) c.refused-in_default-writer_row_among.result)
+    subst (λ (k : PeerKept). Follows k roster peer (event.Call (call.MatchWriter c.args.reader c.args.writer)) c.refused-in_default-writer_row_among.result)
     c.self.view_is
-    (follows_as _ config peer _ _ _ c.refused-in_default-writer_row_among.ensures
-    (no_writer_matched _ config peer c.args.reader c.in-Some.index c.index.result.now c.args.writer
+    (follows_as _ roster peer _ _ _ c.refused-in_default-writer_row_among.ensures
+    (no_writer_matched _ roster peer c.args.reader c.in-Some.index c.index.result.now c.args.writer
     (still_stands c.self.view_is given) c.in-Some.ensures.index.0 (slice_get_read _ _ _ _ refl within c.index.ensures)
     (λ j n there. c.in_default-writer_row_among.ensures j n
     (subst (λ (ns : List WriterName). slice_get ns j ≡ Some n) (sym c.writers.ensures) there))))
 
 pub returns-then-is_attached-clause-step : goal.returns-then-is_attached-clause-step
-returns-then-is_attached-clause-step c = λ config peer given.
+returns-then-is_attached-clause-step c = λ roster peer given.
     let within : c.in-Some.index < length c.self.inside.readers.items = search rules in
     let first : slice_get c.self.inside.readers.items c.in-Some.index ≡ Some c.index.result.now =
     slice_get_read _ _ _ _ refl within c.index.ensures in
     let second : slice_get c.self.inside.readers.items c.in-Some.index ≡ Some c.index-2.result.now =
     slice_get_read _ _ _ _ refl within c.index-2.ensures in
-    subst (λ (k : PeerKept). Follows k config peer (event.Call (call.MatchWriter c.args.reader c.args.writer)) c.refused-then-is_attached.result)
+    subst (λ (k : PeerKept). Follows k roster peer (event.Call (call.MatchWriter c.args.reader c.args.writer)) c.refused-then-is_attached.result)
     c.self.view_is
-    (follows_as _ config peer _ _ _ c.refused-then-is_attached.ensures
-    (matched_already _ config peer c.args.reader c.in-Some.index c.in-Some-writer_row_among.row c.index-2.result.now
+    (follows_as _ roster peer _ _ _ c.refused-then-is_attached.ensures
+    (matched_already _ roster peer c.args.reader c.in-Some.index c.in-Some-writer_row_among.row c.index-2.result.now
     c.args.writer c.is_attached.result (still_stands c.self.view_is given) c.in-Some.ensures.index.0 second
     (row_again c.self.inside.readers.items c.in-Some.index first second c.writers.ensures c.in-Some-writer_row_among.ensures) c.is_attached.ensures.attached
     c.if-is_attached.true))
 
 pub returns-clause-step : goal.returns-clause-step
-returns-clause-step c = λ config peer given.
+returns-clause-step c = λ roster peer given.
     let within : c.in-Some.index < length c.self.inside.readers.items = search rules in
     let first : slice_get c.self.inside.readers.items c.in-Some.index ≡ Some c.index.result.now =
     slice_get_read _ _ _ _ refl within c.index.ensures in
@@ -54,8 +54,8 @@ returns-clause-step c = λ config peer given.
     slice_get_read _ _ _ _ refl within c.index-2.ensures in
     let at : slice_get c.self.inside.readers.items c.in-Some.index ≡ Some c.index_mut.result.now =
     slice_get_read _ _ _ _ refl within c.index_mut.ensures.value in
-    follows_as _ config peer _ _ _ c.answered.ensures
-    (matches_writer _ config peer c.args.reader c.in-Some.index c.in-Some-writer_row_among.row c.index_mut.result.now
+    follows_as _ roster peer _ _ _ c.answered.ensures
+    (matches_writer _ roster peer c.args.reader c.in-Some.index c.in-Some-writer_row_among.row c.index_mut.result.now
     c.attach.new.self c.args.writer c.is_attached.result c.new.result (still_stands c.self.view_is given)
     c.in-Some.ensures.index.0 at (row_again c.self.inside.readers.items c.in-Some.index first at c.writers.ensures c.in-Some-writer_row_among.ensures)
     (met_again c.self.inside.readers.items c.in-Some.index second at c.is_attached.ensures.attached) c.if-is_attached.false c.attach.ensures.attaches

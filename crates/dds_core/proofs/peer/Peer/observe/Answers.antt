@@ -10,5 +10,5 @@ returns-in-Some c = record {
 
 pub returns-in-None : goal.returns-in-None
 returns-in-None c = record {
-  observes = λ config peer s. observes_nothing c.args.of c.args.datagram.now c.in-None.ensures.none config peer;
+  observes = λ roster peer s. observes_nothing c.args.of c.args.datagram.now c.in-None.ensures.none roster peer;
 }

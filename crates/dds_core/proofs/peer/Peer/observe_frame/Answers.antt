@@ -11,7 +11,7 @@ pub returns-in-Some-clause-observes : goal.returns-in-Some-clause-observes
 returns-in-Some-clause-observes c = record {
   submessage = InfoDst c.in-Some.prefix;
   is_read = c.in-Some.ensures.found;
-  observes = λ config peer s. record { old_data = refl; old_heartbeats = refl; to_nobody = inr (refl, inl refl) };
+  observes = λ roster peer s. record { old_data = refl; old_heartbeats = refl; to_nobody = inr (refl, inl refl) };
   leaves = c.note_destination.ensures c.args.self.now.prefix;
 }
 
@@ -21,7 +21,7 @@ returns-in-Some-info_ts-clause-observes c =
     record {
       submessage = InfoTs c.in-Some-info_ts.stamp;
       is_read = c.in-Some-info_ts.ensures.found;
-      observes = λ config peer s. record { old_data = refl; old_heartbeats = refl; to_nobody = inr (refl, inl refl) };
+      observes = λ roster peer s. record { old_data = refl; old_heartbeats = refl; to_nobody = inr (refl, inl refl) };
       leaves =
           c.note_timestamp.ensures
           ∙ ap (λ (p : GuidPrefix). after_submessage p (receiver_at c.args.receiver.now) (InfoTs c.in-Some-info_ts.stamp)) own;

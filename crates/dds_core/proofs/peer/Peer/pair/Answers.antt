@@ -8,13 +8,13 @@ use Rattle.dds_core.proofs.peer.Peer.pair.Goals as goal
 
 pub returns-in_default-row_among : goal.returns-in_default-row_among
 returns-in_default-row_among c = record {
-  pair = λ config peer given.
+  pair = λ roster peer given.
       let within : c.in-Some.index < length c.self.inside.writers.items = search rules in
       not_among _ c.in-Some.index c.args.writer c.index-end.result.now c.args.reader c.in-Some.ensures.index.0
       (slice_get_read _ _ _ _ refl within c.index-end.ensures)
       (λ j n there. c.in_default-row_among.ensures j n
       (subst (λ (ns : List ReaderName). slice_get ns j ≡ Some n) (sym c.readers.ensures) there))
-      config peer (still_stands c.self.view_is given);
+      roster peer (still_stands c.self.view_is given);
 }
 
 -- what an index past the end would give
@@ -27,7 +27,7 @@ no_name =
 
 pub returns : goal.returns
 returns c = record {
-  pair = λ config peer given.
+  pair = λ roster peer given.
       let k = c.index-end.result.now in
       let row = c.in-Some-row_among.row in
       let within : c.in-Some.index < length c.self.inside.writers.items = search rules in
@@ -41,6 +41,6 @@ returns c = record {
       let pair =
       is_among _ c.in-Some.index c.args.writer k c.args.reader row c.is_behind.result c.last.result c.in-Some.ensures.index.0
       (slice_get_read _ _ _ _ refl within c.index-end.ensures) first c.is_behind.ensures.behind c.last.ensures
-      config peer (still_stands c.self.view_is given) in
+      roster peer (still_stands c.self.view_is given) in
       (pair.0, c.entity.ensures ∙ pair.1, ap (λ (n : ReaderName). n.guid.entity) name ∙ pair.2, pair.3, pair.4);
 }

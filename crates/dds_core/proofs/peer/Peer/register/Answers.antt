@@ -4,18 +4,18 @@ use Rattle.dds_core.proofs.CallSteps.{follows_as, register_at, still_stands, unr
 use Rattle.dds_core.proofs.peer.Peer.register.Goals as goal
 
 pub returns-in-Ok-clause-step : goal.returns-in-Ok-clause-step
-returns-in-Ok-clause-step c = λ config peer given.
+returns-in-Ok-clause-step c = λ roster peer given.
     let within : c.in-Some.index < length c.self.inside.writers.items = search rules in
-    follows_as _ config peer _ _ _ c.answered.ensures
-    (register_at _ c.args.writer c.in-Some.index c.index_mut.result.now c.register.new.self c.args.key config peer
+    follows_as _ roster peer _ _ _ c.answered.ensures
+    (register_at _ c.args.writer c.in-Some.index c.index_mut.result.now c.register.new.self c.args.key roster peer
     (still_stands c.self.view_is given) c.in-Some.ensures.index.0
     (slice_get_read _ _ _ _ refl within c.index_mut.ensures.value) within c.in-Ok.ensures.ok)
 
 pub returns-in-Err-clause-step : goal.returns-in-Err-clause-step
-returns-in-Err-clause-step c = λ config peer given.
+returns-in-Err-clause-step c = λ roster peer given.
     let within : c.in-Some.index < length c.self.inside.writers.items = search rules in
-    follows_as _ config peer _ _ _ c.refused-in-Err.ensures
+    follows_as _ roster peer _ _ _ c.refused-in-Err.ensures
     (unregistrable_at _ c.args.writer c.in-Some.index c.index_mut.result.now c.register.new.self c.args.key c.in-Err.code
-    config peer (still_stands c.self.view_is given) c.in-Some.ensures.index.0
+    roster peer (still_stands c.self.view_is given) c.in-Some.ensures.index.0
     (slice_get_read _ _ _ _ refl within c.index_mut.ensures.value) within c.in-Err.ensures.memory
     c.in-Err.ensures.unregistered c.in-Err.ensures.err)

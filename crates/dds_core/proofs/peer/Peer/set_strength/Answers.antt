@@ -11,21 +11,21 @@ use Rattle.dds_core.proofs.StrengthSteps.{sets_at, shared_at}
 use Rattle.dds_core.proofs.peer.Peer.set_strength.Goals as goal
 
 pub returns-in-Ok-clause-step : goal.returns-in-Ok-clause-step
-returns-in-Ok-clause-step c = λ config peer given.
+returns-in-Ok-clause-step c = λ roster peer given.
     let within : c.in-Some.index < length c.self.inside.writers.items = search rules in
     let fits : SFits w32 c.args.strength = search rules in
-    follows_as _ config peer _ _ _ c.answered.ensures
-    (sets_at _ c.args.writer c.in-Some.index c.index_mut.result.now c.set_strength.new.self c.args.strength config peer
+    follows_as _ roster peer _ _ _ c.answered.ensures
+    (sets_at _ c.args.writer c.in-Some.index c.index_mut.result.now c.set_strength.new.self c.args.strength roster peer
     (still_stands c.self.view_is given) c.in-Some.ensures.index.0
     (slice_get_read _ _ _ _ refl within c.index_mut.ensures.value) within c.in-Ok.ensures.accepted
     (subst (λ (z : ℤ). Enters c.index_mut.result.now (StrengthSet z) c.set_strength.new.self)
     (to_z-of_z w32 c.args.strength fits) c.in-Ok.ensures.ok))
 
 pub returns-in-Err-clause-step : goal.returns-in-Err-clause-step
-returns-in-Err-clause-step c = λ config peer given.
+returns-in-Err-clause-step c = λ roster peer given.
     let within : c.in-Some.index < length c.self.inside.writers.items = search rules in
-    follows_as _ config peer _ _ _ c.refused-in-Err.ensures
+    follows_as _ roster peer _ _ _ c.refused-in-Err.ensures
     (shared_at _ c.args.writer c.in-Some.index c.index_mut.result.now c.set_strength.new.self c.args.strength
-    c.in-Err.code config peer (still_stands c.self.view_is given) c.in-Some.ensures.index.0
+    c.in-Err.code roster peer (still_stands c.self.view_is given) c.in-Some.ensures.index.0
     (slice_get_read _ _ _ _ refl within c.index_mut.ensures.value) within c.in-Err.ensures.refused
     c.in-Err.ensures.err)

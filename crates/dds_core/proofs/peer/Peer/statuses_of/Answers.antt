@@ -7,7 +7,7 @@ use Rattle.dds_core.proofs.CallSteps.{number_is, still_stands}
 use Rattle.dds_core.proofs.peer.Peer.statuses_of.Goals as goal
 
 pub returns-in-Some : goal.returns-in-Some
-returns-in-Some c = λ config peer given.
+returns-in-Some c = λ roster peer given.
     let s = still_stands c.self.view_is given in
     let i = c.in-Some.index in
     let within : i < length c.self.inside.writers.items = search rules in
@@ -18,7 +18,7 @@ returns-in-Some c = λ config peer given.
     ∙ ap (λ (e : Entity). status_changes peer.part e) (sym c.in-Writer.is))
 
 pub returns-in-Some-index_of : goal.returns-in-Some-index_of
-returns-in-Some-index_of c = λ config peer given.
+returns-in-Some-index_of c = λ roster peer given.
     let s = still_stands c.self.view_is given in
     let i = c.in-Some-index_of.index in
     let within : i < length c.self.inside.readers.items = search rules in

@@ -15,14 +15,14 @@ use Rattle.dds_core.proofs.peer.Peer.tick.Goals as goal
 
 -- nobody has died, and all stands as before
 pub returns-then-not-counts_deaths-clause-step : goal.returns-then-not-counts_deaths-clause-step
-returns-then-not-counts_deaths-clause-step c = λ config peer given.
+returns-then-not-counts_deaths-clause-step c = λ roster peer given.
     let s = still_stands c.self.view_is given in
     let past : HasPastCounting c.self.inside.readers.items c.args.now =
     subst (λ (ks : List ReaderKept). HasPastCounting ks c.args.now) c.as_slice.ensures.value
     (c.counts_deaths.ensures.past (search rules)) in
-    subst (λ (k : PeerKept). Follows k config peer (event.Tick c.args.now) c.answered-then-not-counts_deaths.result)
-    c.self.view_is (follows_as _ config peer _ _ _ c.answered-then-not-counts_deaths.ensures
-    (tick_past_counting _ Memory config peer s c.args.now (search rules) (search rules) (refl, past)))
+    subst (λ (k : PeerKept). Follows k roster peer (event.Tick c.args.now) c.answered-then-not-counts_deaths.result)
+    c.self.view_is (follows_as _ roster peer _ _ _ c.answered-then-not-counts_deaths.ensures
+    (tick_past_counting _ Memory roster peer s c.args.now (search rules) (search rules) (refl, past)))
 
 -- what goes out, by what the peer keeps
 beats : (c : goal.After-from_vec)
@@ -34,7 +34,7 @@ beats c =
     c.tick_all-packets.result.unsent) c.as_mut_slice-2.ensures.value c.tick_all-packets.ensures.beats)
 
 pub returns-clause-step : goal.returns-clause-step
-returns-clause-step c = λ config peer given.
+returns-clause-step c = λ roster peer given.
     let s = still_stands c.self.view_is given in
     let all : AllTick c.self.inside.writers.items c.args.now c.tick_all-packets.new.writers =
     subst (λ (ks : List WriterKept). AllTick ks c.args.now c.tick_all-packets.new.writers)
@@ -45,7 +45,7 @@ returns-clause-step c = λ config peer given.
     let same =
     with_items_is c.self.inside.readers c.expire_all.new.readers
     (c.expire_all.ensures.expires.count ∙ c.as_mut_slice.ensures.len) in
-    ticks _ _ _ config peer s c.args.now (search rules) (search rules)
+    ticks _ _ _ roster peer s c.args.now (search rules) (search rules)
     (subst (λ (ks : List WriterKept). AllTick c.self.inside.writers.items c.args.now ks)
     (sym (written_back c.tick_all-packets.new.writers c.self.inside.writers.items c.self.inside.writers.len
     (search rules) (search rules))) all)
@@ -53,6 +53,6 @@ returns-clause-step c = λ config peer given.
     refl (beats c)
 
 pub returns-clause-sends : goal.returns-clause-sends
-returns-clause-sends c = λ config peer given.
+returns-clause-sends c = λ roster peer given.
     let s = still_stands c.self.view_is given in
-    due_sent config peer _ c.from_vec.result c.tick_all-packets.result.unsent s (beats c)
+    due_sent roster peer _ c.from_vec.result c.tick_all-packets.result.unsent s (beats c)

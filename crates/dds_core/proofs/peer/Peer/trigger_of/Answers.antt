@@ -13,7 +13,7 @@ known true value is = refl
 known false value is = absurd cc
 
 pub returns-in-Some-clause-value : goal.returns-in-Some-clause-value
-returns-in-Some-clause-value g c = λ config peer given.
+returns-in-Some-clause-value g c = λ roster peer given.
     let tests = g.T.Filters.meaning c.args.filters.now in
     let here : c.self.inside.watch ≡ peer.part.dds.watch =
     ap (λ (k : PeerKept). k.watch) c.self.view_is ∙ sym given.watch in
@@ -24,13 +24,13 @@ returns-in-Some-clause-value g c = λ config peer given.
     ∙ (ap (λ (m : StatusMask). meet m statuses) (there.1 (record { 0 = 0 }))
     ∙ (ap (λ (w : Watched). meet (enabled_of w entity (record { 0 = 0 })) statuses) here
     ∙ (ap (λ (m : StatusMask). meet (enabled_of peer.part.dds.watch entity (record { 0 = 0 })) m)
-    (c.statuses_of.ensures config peer given)
+    (c.statuses_of.ensures roster peer given)
     ∙ (known (knows_entity peer.part.dds.watch entity) _
     (ap (λ (w : Watched). knows_entity w entity) (sym here) ∙ there.0)
     ∙ ap (λ (x : Cond). trigger_value tests peer.part x) (sym c.in-Status.is)))))
 
 pub returns-in-None-clause-value : goal.returns-in-None-clause-value
-returns-in-None-clause-value g c = λ config peer given.
+returns-in-None-clause-value g c = λ roster peer given.
     let tests = g.T.Filters.meaning c.args.filters.now in
     let here : c.self.inside.watch ≡ peer.part.dds.watch =
     ap (λ (k : PeerKept). k.watch) c.self.view_is ∙ sym given.watch in
@@ -42,8 +42,8 @@ returns-in-None-clause-value g c = λ config peer given.
     ∙ ap (λ (x : Cond). trigger_value tests peer.part x) (sym c.in-Status.is)
 
 pub returns-in-Made-clause-value : goal.returns-in-Made-clause-value
-returns-in-Made-clause-value g c = λ config peer given.
+returns-in-Made-clause-value g c = λ roster peer given.
     let tests = g.T.Filters.meaning c.args.filters.now in
-    c.value_of.ensures.value config peer given
+    c.value_of.ensures.value roster peer given
     ∙ (ap (λ (w : Watched). condition_value tests peer.part (at_number w.conditions c.in-Made.number)) (sym given.watch)
     ∙ ap (λ (x : Cond). trigger_value tests peer.part x) (sym c.in-Made.is))

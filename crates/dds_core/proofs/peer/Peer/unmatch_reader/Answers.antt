@@ -5,18 +5,18 @@ use Rattle.dds_core.proofs.ReaderSteps.{leaves_at, leaves_not}
 use Rattle.dds_core.proofs.peer.Peer.unmatch_reader.Goals as goal
 
 pub returns-in-Ok-clause-step : goal.returns-in-Ok-clause-step
-returns-in-Ok-clause-step c = λ config peer given.
+returns-in-Ok-clause-step c = λ roster peer given.
     let within : c.in-Some.index < length c.self.inside.writers.items = search rules in
-    follows_as _ config peer _ _ _ c.answered.ensures
-    (leaves_at _ c.args.writer c.in-Some.index c.index_mut.result.now c.leave.new.self c.args.reader config peer
+    follows_as _ roster peer _ _ _ c.answered.ensures
+    (leaves_at _ c.args.writer c.in-Some.index c.index_mut.result.now c.leave.new.self c.args.reader roster peer
     (still_stands c.self.view_is given) c.in-Some.ensures.index.0
     (slice_get_read _ _ _ _ refl within c.index_mut.ensures.value) c.in-Ok.ensures.accepted c.in-Ok.ensures.ok)
 
 pub returns-in-Err-clause-step : goal.returns-in-Err-clause-step
-returns-in-Err-clause-step c = λ config peer given.
+returns-in-Err-clause-step c = λ roster peer given.
     let within : c.in-Some.index < length c.self.inside.writers.items = search rules in
-    follows_as _ config peer _ _ _ c.refused-in-Err.ensures
-    (leaves_not _ c.args.writer c.in-Some.index c.index_mut.result.now c.leave.new.self c.args.reader c.in-Err.code config
+    follows_as _ roster peer _ _ _ c.refused-in-Err.ensures
+    (leaves_not _ c.args.writer c.in-Some.index c.index_mut.result.now c.leave.new.self c.args.reader c.in-Err.code roster
     peer (still_stands c.self.view_is given) c.in-Some.ensures.index.0
     (slice_get_read _ _ _ _ refl within c.index_mut.ensures.value) c.in-Err.ensures.refused c.in-Err.ensures.no_memory
     c.in-Err.ensures.err)

@@ -1,7 +1,7 @@
 use Rattle.std.proofs.Common.{◌≡◌, ◌<◌, Some, List, length, slice_get, sym, subst, ◌∙◌, ap, rules, arith, refl}
 use Rattle.std.specs.Prelude.{ℕ}
 use Rattle.std.proofs.lemmas.Option.{same_Some, slice_get_read}
-use Rattle.dds_base.specs.declared.config.Config.{Config}
+use Rattle.dds_protocol.specs.Roster.{Roster}
 use Rattle.dds_machine.specs.declared.call.Call.TheVariants as call
 use Rattle.dds_protocol.specs.declared.event.Event.TheVariants as event
 use Rattle.dds_protocol.specs.Peer.{Peer}
@@ -42,20 +42,20 @@ unregisters c =
     let at : slice_get c.args.self.now.writers i ≡ Some c.index.result.now =
     subst (λ (k : PeerKept). slice_get k.writers i ≡ Some c.index.result.now) c.self.view_is first in
     let makes =
-    λ (config : Config) (peer : Peer)
-    (s : StandsFor c.args.self.now config peer). unregister_at c.args.self.now c.args.writer i c.index.result.now
-    c.args.key c.unregister_kind-kind.result config peer s c.in-Some.ensures.index.0 within at
+    λ (roster : Roster) (peer : Peer)
+    (s : StandsFor c.args.self.now roster peer). unregister_at c.args.self.now c.args.writer i c.index.result.now
+    c.args.key c.unregister_kind-kind.result roster peer s c.in-Some.ensures.index.0 within at
     (λ w answered stands. sym (c.is_registered.ensures w answered stands) ∙ c.if-not-is_registered.false)
     (λ w answered stands. c.unregister_kind-kind.ensures w answered
     (subst (λ (k : WriterKept). WriterStands k w answered) (sym one) stands)) in (
-      λ config peer s. made_steps c.args.self.now c.make.new.self config peer s
-          (call.Unregister c.args.writer c.args.key) _ _ c.make.result (makes config peer s) (made config peer s),
-      λ config peer s. made_sends c.make.new.self config peer
-          (call.Unregister c.args.writer c.args.key) _ _ c.make.result (makes config peer s) (made config peer s),
+      λ roster peer s. made_steps c.args.self.now c.make.new.self roster peer s
+          (call.Unregister c.args.writer c.args.key) _ _ c.make.result (makes roster peer s) (made roster peer s),
+      λ roster peer s. made_sends c.make.new.self roster peer
+          (call.Unregister c.args.writer c.args.key) _ _ c.make.result (makes roster peer s) (made roster peer s),
     )
 
 pub returns-then-not-is_registered-clause-step : goal.returns-then-not-is_registered-clause-step
-returns-then-not-is_registered-clause-step c = λ config peer s.
+returns-then-not-is_registered-clause-step c = λ roster peer s.
     let i = c.in-Some.index in
     let within : i < length c.args.self.now.writers = search rules in
     let here : i < length c.self.inside.writers.items =
@@ -64,8 +64,8 @@ returns-then-not-is_registered-clause-step c = λ config peer s.
     slice_get_read _ _ _ _ refl here c.index.ensures in
     let at : slice_get c.args.self.now.writers i ≡ Some c.index.result.now =
     subst (λ (k : PeerKept). slice_get k.writers i ≡ Some c.index.result.now) c.self.view_is there in
-    follows_as _ config peer _ _ _ c.refused-then-not-is_registered.ensures
-    (unregistered_at c.args.self.now c.args.writer i c.index.result.now c.args.key config peer s
+    follows_as _ roster peer _ _ _ c.refused-then-not-is_registered.ensures
+    (unregistered_at c.args.self.now c.args.writer i c.index.result.now c.args.key roster peer s
     c.in-Some.ensures.index.0 within at (λ w answered stands. sym (c.is_registered.ensures w answered stands) ∙ c.if-not-is_registered.true))
 
 pub returns-clause-step : goal.returns-clause-step

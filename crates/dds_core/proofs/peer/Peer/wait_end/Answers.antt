@@ -7,10 +7,10 @@ use Rattle.dds_core.proofs.Watched.{done_call}
 use Rattle.dds_core.proofs.peer.Peer.wait_end.Goals as goal
 
 pub returns-clause-step : goal.returns-clause-step
-returns-clause-step c = λ config peer given.
+returns-clause-step c = λ roster peer given.
     let s = still_stands c.self.view_is given in
-    follows_as _ config peer _ _ _ c.answered.ensures
+    follows_as _ roster peer _ _ _ c.answered.ensures
     (done_call (λ w. use_refusal (at_number w.wait_sets c.args.wait_set)) (λ w. with_deadline w c.args.wait_set None) _
-    c.end-done.new.self c.end-done.result c.reply_to.result config peer s (call.WaitEnd c.args.wait_set)
+    c.end-done.new.self c.end-done.result c.reply_to.result roster peer s (call.WaitEnd c.args.wait_set)
     (λ dds h. h) refl c.reply_to.ensures
     c.end-done.ensures.ok c.end-done.ensures.taken c.end-done.ensures.refused c.end-done.ensures.err)

@@ -20,7 +20,7 @@ make-requires-clause-short c = λ k at.
     (c.is_too_long.ensures.short c.if-is_too_long.false)
 
 pub returns-then-is_too_long-clause-step : goal.returns-then-is_too_long-clause-step
-returns-then-is_too_long-clause-step c = λ config peer s.
+returns-then-is_too_long-clause-step c = λ roster peer s.
     let i = c.in-Some.index in
     let within : i < length c.args.self.now.writers = search rules in
     let here : i < length c.self.inside.writers.items =
@@ -28,12 +28,12 @@ returns-then-is_too_long-clause-step c = λ config peer s.
     let there : slice_get c.args.self.now.writers i ≡ Some c.index.result.now =
     subst (λ (x : PeerKept). slice_get x.writers i ≡ Some c.index.result.now) c.self.view_is
     (slice_get_read _ _ _ _ refl here c.index.ensures) in
-    follows_as _ config peer _ _ _ c.refused-then-is_too_long.ensures
-    (long_at c.args.self.now c.args.writer i c.index.result.now c.args.key c.args.value config peer s
+    follows_as _ roster peer _ _ _ c.refused-then-is_too_long.ensures
+    (long_at c.args.self.now c.args.writer i c.index.result.now c.args.key c.args.value roster peer s
     c.in-Some.ensures.index.0 there (c.is_too_long.ensures.long c.if-is_too_long.true))
 
 pub returns-clause-step : goal.returns-clause-step
-returns-clause-step c = λ config peer s.
+returns-clause-step c = λ roster peer s.
     let i = c.in-Some.index in
     let within : i < length c.args.self.now.writers = search rules in
     let here : i < length c.self.inside.writers.items =
@@ -42,13 +42,13 @@ returns-clause-step c = λ config peer s.
     subst (λ (x : PeerKept). slice_get x.writers i ≡ Some c.index.result.now) c.self.view_is
     (slice_get_read _ _ _ _ refl here c.index.ensures) in
     let makes =
-    write_at c.args.self.now c.args.writer i c.index.result.now c.args.key c.args.value config peer s
+    write_at c.args.self.now c.args.writer i c.index.result.now c.args.key c.args.value roster peer s
     c.in-Some.ensures.index.0 within there (c.is_too_long.ensures.short c.if-is_too_long.false) in
-    made_steps c.args.self.now c.make.new.self config peer s
-    (call.Write c.args.writer c.args.key c.args.value) _ _ c.make.result makes (c.make.ensures.makes config peer s)
+    made_steps c.args.self.now c.make.new.self roster peer s
+    (call.Write c.args.writer c.args.key c.args.value) _ _ c.make.result makes (c.make.ensures.makes roster peer s)
 
 pub returns-clause-sends : goal.returns-clause-sends
-returns-clause-sends c = λ config peer s.
+returns-clause-sends c = λ roster peer s.
     let i = c.in-Some.index in
     let within : i < length c.args.self.now.writers = search rules in
     let here : i < length c.self.inside.writers.items =
@@ -57,7 +57,7 @@ returns-clause-sends c = λ config peer s.
     subst (λ (x : PeerKept). slice_get x.writers i ≡ Some c.index.result.now) c.self.view_is
     (slice_get_read _ _ _ _ refl here c.index.ensures) in
     let makes =
-    write_at c.args.self.now c.args.writer i c.index.result.now c.args.key c.args.value config peer s
+    write_at c.args.self.now c.args.writer i c.index.result.now c.args.key c.args.value roster peer s
     c.in-Some.ensures.index.0 within there (c.is_too_long.ensures.short c.if-is_too_long.false) in
-    made_sends c.make.new.self config peer (call.Write c.args.writer c.args.key c.args.value) _ _ c.make.result makes
-    (c.make.ensures.makes config peer s)
+    made_sends c.make.new.self roster peer (call.Write c.args.writer c.args.key c.args.value) _ _ c.make.result makes
+    (c.make.ensures.makes roster peer s)

@@ -28,7 +28,7 @@ returns-clause-round g c = λ given.
     let some : c.is_matched.result ≡ true = search rules in
     let here : IsMatchedSo old reader writer true =
     rows_of_machine old (λ rows. is_attached (how_of rows writer)) reader true
-    (λ config m stands. sym some ∙ c.is_matched.ensures.matched given config m stands) in
+    (λ roster m stands. sym some ∙ c.is_matched.ensures.matched given roster m stands) in
     let a = c.add_step.ensures.step in
     let d = c.deliver_heartbeat.ensures.adds given in
     let first : c.add_step.new.replies.items ≡ a.0 ∷ [] =
@@ -66,7 +66,7 @@ returns-clause-matched g c = λ given.
     (subst (λ (r : Endpoint). AreMatched old m.writer r) ends.1
     (are_matched old m (c.in-Some.ensures.known given) (here_of old writer reader m.writer m.reader ends.0 ends.1
     (rows_of_machine old (λ rows. is_attached (how_of rows writer)) reader true
-    (λ config n stands. sym some ∙ c.is_matched.ensures.matched given config n stands)))))
+    (λ roster n stands. sym some ∙ c.is_matched.ensures.matched given roster n stands)))))
 
 pub returns-clause-run : goal.returns-clause-run
 returns-clause-run g c = λ given.
@@ -86,7 +86,7 @@ returns-then-not-is_matched-clause-refused g c = λ given.
     let none : c.is_matched.result ≡ false = search rules in
     not_attached old c.args.writer c.args.reader
     (rows_of_machine old (λ rows. is_attached (how_of rows c.args.writer)) c.args.reader false
-    (λ config m stands. sym none ∙ c.is_matched.ensures.matched given config m stands))
+    (λ roster m stands. sym none ∙ c.is_matched.ensures.matched given roster m stands))
 
 pub returns-in_default-clause-refused : goal.returns-in_default-clause-refused
 returns-in_default-clause-refused g c = λ given.
@@ -105,4 +105,4 @@ returns-in_err-replies-clause-refused g c =
     lacks_memory old c.in-Some.m c.args.writer c.args.reader ends.0 ends.1 (c.in-Some.ensures.known given)
     (here_of old c.args.writer c.args.reader c.in-Some.m.writer c.in-Some.m.reader ends.0 ends.1
     (rows_of_machine old (λ rows. is_attached (how_of rows c.args.writer)) c.args.reader true
-    (λ config m stands. sym some ∙ c.is_matched.ensures.matched given config m stands))))
+    (λ roster m stands. sym some ∙ c.is_matched.ensures.matched given roster m stands))))
