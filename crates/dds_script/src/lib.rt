@@ -1,8 +1,9 @@
 //! What the programs share: the words and numbers of a script, the options of writers and readers, the calls that words
 //! ask for, lines of input, and how replies are printed.
 //!
-//! Contracts say which values a `Prefix` passes, and nothing else: what the programs read and print is tested.
-//! Not here: which lines a program takes.
+//! Contracts say which values a `Prefix` passes, which number or time a word is, and how a line is put together of its
+//! pieces and printed, and nothing else: what else the programs read and print is tested. Not here: which lines a
+//! program takes.
 #![tactic(auto)]
 
 mod call;

@@ -1,10 +1,18 @@
 //! Numbers, names, keys and values, as a script spells them.
 
+ghost use Rattle.std.specs.Prelude.{◌≡◌, ◌*◌, ◌^◌, ◌/◌, true, false, IfNone, IfSome};
+ghost use Rattle.std.specs.Char.{digit_value, is_ascii_digit};
+ghost use Rattle.std.specs.Option.{option_map};
+ghost use Rattle.dds_script.specs.Numbers.{before_end, decimal_of, of_64_bits, units_said};
+
 use dds_base::{EntityId, GuidPrefix, Key, Octets};
 use hex::{FromHex, FromHexError};
 use std::alloc::{AllocError, Global};
 
-fn decimal_digit(digit: u8) -> Option<u64> {
+fn decimal_digit(digit: u8) -> Option<u64>
+    ensures digit { IfSome result (λ n. (is_ascii_digit digit ≡ true) × (n ≡ digit_value digit)) }
+    ensures none { IfNone result (is_ascii_digit digit ≡ false) }
+{
     match digit {
         b'0'..=b'9' => Some(u64::from(digit - b'0')),
         _ => None,
@@ -12,7 +20,9 @@ fn decimal_digit(digit: u8) -> Option<u64> {
 }
 
 /// A number in decimal digits alone, or none.
-pub fn decimal(word: &str) -> Option<u64> {
+pub fn decimal(word: &str) -> Option<u64>
+    ensures read { result ≡ decimal_of word.now }
+{
     if word.is_empty() {
         return None;
     }
@@ -46,20 +56,32 @@ pub fn decimal_i32(word: &str) -> Option<i32> {
 const SECOND: u64 = 1 << 32;
 
 /// So many of the parts of a second, of which there are so many, in units of 2^-32 second, rounded down.
-fn parts_of_second(number: u64, parts: u64) -> Option<u64> {
+fn parts_of_second(number: u64, parts: u64) -> Option<u64>
+    ensures thousandths { parts ≡ 1000 → result ≡ of_64_bits (number * 2 ^ 32 / 1000) }
+    ensures millionths { parts ≡ 1000000 → result ≡ of_64_bits (number * 2 ^ 32 / 1000000) }
+{
     let seconds = number.checked_div(parts)?.checked_mul(SECOND)?;
     let rest = number.checked_rem(parts)?.checked_mul(SECOND)?;
     seconds.checked_add(rest.checked_div(parts)?)
 }
 
+/// What stands before such an end.
+fn before_end<'a>(word: &'a str, end: &str) -> Option<&'a str>
+    ensures { option_map (λ x. x.now) result ≡ before_end end.now word.now }
+{
+    word.strip_suffix(end)
+}
+
 /// A time in units of 2^-32 second: a number of them, or of seconds, milliseconds or microseconds, as `5s`, `500ms` and
 /// `20us`, rounded down.
-pub fn units(word: &str) -> Option<u64> {
-    if let Some(milliseconds) = word.strip_suffix("ms") {
+pub fn units(word: &str) -> Option<u64>
+    ensures read { result ≡ units_said word.now }
+{
+    if let Some(milliseconds) = before_end(word, "ms") {
         parts_of_second(decimal(milliseconds)?, 1_000)
-    } else if let Some(microseconds) = word.strip_suffix("us") {
+    } else if let Some(microseconds) = before_end(word, "us") {
         parts_of_second(decimal(microseconds)?, 1_000_000)
-    } else if let Some(seconds) = word.strip_suffix('s') {
+    } else if let Some(seconds) = before_end(word, "s") {
         decimal(seconds)?.checked_mul(SECOND)
     } else {
         decimal(word)

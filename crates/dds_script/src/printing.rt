@@ -1,5 +1,10 @@
 //! What is printed.
 
+ghost use Rattle.std.specs.Prelude.{◌≡◌, OnOk, IfErr, IfOk, IfSome};
+ghost use Rattle.std.specs.String.{string_bytes};
+ghost use Rattle.std.specs.Io.KnownBytes.{Appends};
+ghost use Rattle.dds_script.specs.Lines.{Adds, IsNewLine, IsWhole, octets_text};
+
 use crate::fault::Fault;
 use crate::matching::Side;
 use bitflags::Flags;
@@ -34,7 +39,9 @@ pub struct TranscriptLine {
 
 impl TranscriptLine {
     /// An empty line.
-    pub fn new(alloc: Global) -> Self {
+    pub fn new(alloc: Global) -> Self
+        ensures none { IsNewLine result }
+    {
         TranscriptLine {
             text: String::new(alloc),
             is_whole: true,
@@ -42,7 +49,9 @@ impl TranscriptLine {
     }
 
     /// The line, with its line feed.
-    pub fn finish(mut self) -> Result<String, AllocError> {
+    pub fn finish(mut self) -> Result<String, AllocError>
+        ensures whole { IfOk result (λ text. IsWhole self (string_bytes text)) }
+    {
         self.push('\n');
         if self.is_whole {
             Ok(self.text)
@@ -51,14 +60,18 @@ impl TranscriptLine {
         }
     }
 
-    pub(crate) fn push(&mut self, piece: impl Display + Drop) {
+    pub(crate) fn push<D: Display + Drop>(&mut self, piece: D)
+        ensures added { IfSome (D.output piece) (λ text. Adds self.old text self.new) }
+    {
         if write!(self.text, "{piece}").is_err() {
             self.is_whole = false;
         }
     }
 
     /// Octets in hexadecimal digits, two each.
-    pub fn push_octets(&mut self, octets: &[u8]) {
+    pub fn push_octets(&mut self, octets: &[u8])
+        ensures added { Adds self.old (octets_text octets.now) self.new }
+    {
         for octet in octets {
             self.push(format_args!("{octet:02x}"));
         }
@@ -244,7 +257,9 @@ impl TranscriptLine {
     }
 
     /// A word, as it stands.
-    pub fn push_word(&mut self, word: &str) {
+    pub fn push_word(&mut self, word: &str)
+        ensures added { Adds self.old word.now self.new }
+    {
         self.push(word);
     }
 
@@ -302,7 +317,10 @@ impl TranscriptLine {
 /// # Errors
 ///
 /// `OutputFailed` where the stream took less than that.
-pub fn print(output: &mut impl Write, text: &str) -> Result<(), Fault> {
+pub fn print<W: Write>(output: &mut W, text: &str) -> Result<(), Fault>
+    ensures printed { OnOk result (Appends (W.contents output.old) (W.contents output.new) text.now) }
+    ensures fault { IfErr result (λ e. e ≡ Fault.OutputFailed) }
+{
     output
         .write_all(text.as_bytes())
         .map_err(|_| Fault::OutputFailed)?;

@@ -2,6 +2,9 @@
 //!
 //! DDS 1.4, 2.2.3 (supported QoS).
 
+ghost use Rattle.std.specs.Prelude.{◌≡◌};
+ghost use Rattle.discovery_script.specs.Announced.{duration_of};
+
 use dds_base::{Code, Guid, OwnershipQos, ReliabilityQos};
 use dds_script::{decimal, units};
 use rtps_announcements::{
@@ -29,7 +32,9 @@ const USUAL: Policies = Policies {
 };
 
 /// A time of less than 2^31 - 1 seconds, as it is announced.
-pub fn duration(word: &str) -> Option<Duration> {
+pub fn duration(word: &str) -> Option<Duration>
+    ensures read { result ≡ duration_of word.now }
+{
     let units = units(word)?;
     let seconds = u32::try_from(units >> 32).ok()?;
     if seconds >= Duration::INFINITE.seconds {

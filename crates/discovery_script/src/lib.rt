@@ -1,7 +1,9 @@
 //! What the programs of discovery share: the words that announce an endpoint, addresses, and the lines that tell who is
 //! there.
 //!
-//! Contracts say nothing here: what the programs read and print is tested. Not here: which lines a program takes.
+//! Contracts say which addresses and times words are, and which line is printed of who is there, of what is sent and of
+//! what is matched. Of the options of endpoints, and of how endpoints and participants are listed, they say nothing:
+//! that is tested. Not here: which lines a program takes.
 #![tactic(auto)]
 
 mod addresses;
