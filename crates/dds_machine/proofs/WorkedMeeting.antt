@@ -1,19 +1,21 @@
 -- Ends that nobody knew before, computed: the names by which they may be called, a writer that meets readers, and a
 -- reader that meets writers.
 use Rattle.std.proofs.Common.{◌≡◌, ℕ, true, false, List, [], ◌∷◌, Some, None, length, refl}
-use Rattle.std.specs.Prelude.{◌+◌, pos, replicate}
+use Rattle.std.specs.Prelude.{pos, replicate}
 use Rattle.dds_base.specs.declared.change.Change.{Change}
 use Rattle.dds_base.specs.declared.change.ChangeKind.TheVariants.{Write as Writes}
 use Rattle.dds_base.specs.declared.code.Code.TheVariants.{BadParameter, OutOfResources, PreconditionNotMet}
 use Rattle.dds_base.specs.declared.endpoint.Endpoint.{Endpoint}
 use Rattle.dds_base.specs.declared.guid.GuidPrefix.{GuidPrefix}
 use Rattle.dds_base.specs.declared.happening.Happening.TheVariants.{Joined}
+use Rattle.dds_base.specs.declared.policies.LivelinessKind.TheVariants.{Automatic, ManualByTopic}
 use Rattle.dds_base.specs.declared.qos.MatchedWriter.{MatchedWriter}
 use Rattle.dds_base.specs.Checked.{unknown_prefix}
 use Rattle.dds_base.specs.Written.{Changed}
+use Rattle.dds_machine.specs.Calls.{handle_once_met, lease_by}
 use Rattle.dds_machine.specs.Matching.{MatchReader, MeetReader, MeetWriter, Telling, UnmatchReader, UnmatchWriter, after_telling, knows_reader, knows_reliable, seen_after_telling, telling_refusal}
 use Rattle.dds_machine.specs.Naming.{is_name_among, with_name}
-use Rattle.dds_machine.specs.Part.{Name, Part, TopicReader, Writer, acknowledged_of, how_of, no_part, no_reader, no_writer, own_proxies, own_reader, own_writer, owed_from, place_of, publication_among}
+use Rattle.dds_machine.specs.Part.{Name, Part, acknowledged_of, no_part, no_reader, no_writer, own_proxies, own_reader, own_writer, owed_from, place_of}
 
 -- a prefix of twelve of this octet
 abbrev prefix : ℕ → GuidPrefix
@@ -200,10 +202,10 @@ first = told listening (MeetWriter 1 w1 (writer (prefix 6)))
 abbrev second : Part
 second = told first (MeetWriter 1 w2 (writer (prefix 5)))
 
-handle-first : publication_among (own_proxies first 1) w1 ≡ Some 1
+handle-first : handle_once_met listening 1 w1 ≡ 1
 handle-first = refl
 
-handle-second : publication_among (own_proxies second 1) w2 ≡ Some 2
+handle-second : handle_once_met first 1 w2 ≡ 2
 handle-second = refl
 
 joined : (own_reader second 1).happened ≡ Joined (writer (prefix 5)) ∷ Joined (writer (prefix 6)) ∷ []
@@ -216,7 +218,7 @@ place-first = refl
 abbrev third : Part
 third = told (told second (UnmatchWriter 1 w1)) (MeetWriter 1 w1 (writer (prefix 6)))
 
-handle-again : publication_among (own_proxies third 1) w1 ≡ Some 1
+handle-again : handle_once_met (told second (UnmatchWriter 1 w1)) 1 w1 ≡ 1
 handle-again = refl
 
 rows-again : length (own_proxies third 1) ≡ 2
@@ -227,3 +229,11 @@ guid_of_w1 = refl
 
 met-writer_twice : telling_refusal second (MeetWriter 1 w1 (writer (prefix 6))) ≡ Some PreconditionNotMet
 met-writer_twice = refl
+
+-- ---- leases
+
+by_topic : lease_by ManualByTopic (Some 10) ≡ Some 10
+by_topic = refl
+
+by_itself : lease_by Automatic (Some 10) ≡ None
+by_itself = refl

@@ -10,7 +10,7 @@ use Rattle.dds_machine.specs.declared.call.Call.{Call}
 use Rattle.dds_machine.specs.declared.call.Call.TheVariants as call
 use Rattle.dds_machine.specs.declared.reply.Reply.{Reply}
 use Rattle.dds_machine.specs.declared.reply.Reply.TheVariants.{Done, InstanceHandle, LivelinessLost, Matched}
-use Rattle.dds_machine.specs.Calls.{Answers, CallStep, Effect, nothing, writes, tells, looks_at_matches, effect, effect_of, reader_told}
+use Rattle.dds_machine.specs.Calls.{Answers, CallStep, Effect, nothing, writes, tells, looks_at_matches, effect, effect_of, far_reader_told, reader_told, far_writer_told}
 use Rattle.dds_machine.specs.Matching.{Telling, MatchReader, UnmatchReader, MatchWriter, UnmatchWriter, MeetReader, MeetWriter, TellStep, after_telling, is_known, joined, left, met, seen_after_telling, telling_refusal, with_how, with_match}
 use Rattle.dds_machine.specs.Numbered.{numbered, with_numbered}
 use Rattle.dds_machine.specs.Part.{Attachment, Away, Waiting, Dds, Part, Rtps, TopicReader, Writer, WriterProxy, no_writer, place_of, row_of}
@@ -63,6 +63,12 @@ answer_says tests old (call.MatchWriter v w) (InstanceHandle handle) new a t e =
 answer_says tests old (call.MatchWriter v w) reply new a t e = cc
 answer_says tests old (call.UnmatchWriter v w) Done new a t e = said old (UnmatchWriter v w) new _ (a.0, a.2) refl t e
 answer_says tests old (call.UnmatchWriter v w) reply new a t e = cc
+answer_says tests old (call.MeetReader v far greeted) Done new a t e =
+    said old (far_reader_told v far) new _ (a.0, a.2) refl t e
+answer_says tests old (call.MeetReader v far greeted) reply new a t e = cc
+answer_says tests old (call.MeetWriter v far) (InstanceHandle handle) new a t e =
+    said old (far_writer_told v far) new _ (a.0, a.2) refl t e
+answer_says tests old (call.MeetWriter v far) reply new a t e = cc
 answer_says tests old (call.Register v key) Done new a t e = cc
 answer_says tests old (call.Write v key value) Done new a t e = cc
 answer_says tests old (call.Dispose v key) Done new a t e = cc
