@@ -118,8 +118,8 @@ reader_told part writer reader = HasReader writer reader (knows_reliable (own_wr
 
 -- what a writer is told of a far reader: its name, and whether it asks for all changes (DDS 1.4, 2.2.3, RELIABILITY)
 abbrev pub far_reader_told : ℕ → FarReader → Telling
-far_reader_told writer far = HasMetReader writer (record { end = far.endpoint; guid = far.guid })
-    (is_reliable far.requested.reliability)
+far_reader_told writer far = HasMetReader writer
+    (record { end = far.endpoint; guid = far.guid; reliable = is_reliable far.requested.reliability })
 
 -- how long an assertion of a writer lasts at its readers: for ever where it does not assert itself by topic (DDS 1.4,
 -- 2.2.3, LIVELINESS)

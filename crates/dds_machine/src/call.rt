@@ -246,10 +246,12 @@ pub enum Call {
     /// now on, as by `MatchReader`, and the writer knows it from then on as one of its topic. `BadParameter` where the
     /// peer has no such writer, where the number of the participant or of the reader is 0, the prefix is all zeros or
     /// the entity is no reader, and where the name and the GUID don't go with those that are known: a name has one GUID,
-    /// a GUID one name, and the number of a participant one prefix. `PreconditionNotMet` where the two are matched,
-    /// `OutOfResources` where the writer knows 16 other readers of that participant, or 2^31 - 1 others. It sends nothing.
+    /// a GUID one name, and the number of a participant one prefix. So it is where the peer knows the reader as a
+    /// reliable one and is told that it is best-effort, or the other way round: RELIABILITY can't change.
+    /// `PreconditionNotMet` where the two are matched, `OutOfResources` where the writer knows 16 other readers of that
+    /// participant, or 2^31 - 1 others. It sends nothing.
     ///
-    /// RTPS 2.5, 8.4.7.4 (matched_reader_add).
+    /// RTPS 2.5, 8.4.7.4 (matched_reader_add); DDS 1.4, 2.2.3 (RELIABILITY).
     MeetReader {
         writer: u8,
         far: FarReader,

@@ -12,8 +12,8 @@ pub struct FarReader {
     pub endpoint: Endpoint,
     /// Its GUID, which no other reader has.
     pub guid: Guid,
-    /// What it asks for. Of this its RELIABILITY counts here; whether the writer offers it all is for whoever tells of
-    /// the reader.
+    /// What it asks for. Of this its RELIABILITY counts here, which can't change. Whether the writer offers it all is
+    /// for whoever tells of the reader.
     pub requested: Policies,
 }
 

@@ -7,9 +7,9 @@ use Rattle.dds_machine.specs.Naming.{agree_on_ends, agree_on_peers, is_no_name}
 use Rattle.dds_machine.specs.Part.{Name, same_endpoint}
 use Rattle.dds_names.specs.declared.named_end.NamedEnd.{NamedEnd}
 
--- the name of an end, and its GUID
+-- the name of an end, its GUID, and whether it is reliable
 abbrev pub name_of : NamedEnd → Name
-name_of named = record { end = named.end; guid = named.guid }
+name_of named = record { end = named.end; guid = named.guid; reliable = named.is_reliable }
 
 -- a name and each of these agree, on participants and on ends
 abbrev pub agrees_with_all : List NamedEnd → NamedEnd → Bool

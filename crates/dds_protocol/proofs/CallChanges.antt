@@ -52,7 +52,7 @@ telling_watch old (MatchReader w v reliable) = refl
 telling_watch old (UnmatchReader w v) = refl
 telling_watch old (MatchWriter r w) = refl
 telling_watch old (UnmatchWriter r w) = refl
-telling_watch old (MeetReader w v reliable) = refl
+telling_watch old (MeetReader w v) = refl
 telling_watch old (MeetWriter r w as_writer) = refl
 
 -- ---- by what is then there
