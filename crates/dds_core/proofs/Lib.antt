@@ -5,6 +5,8 @@ pub mod CallSteps
 pub mod AssertSteps
 pub mod StrengthSteps
 pub mod ReaderSteps
+pub mod MetReaders
+pub mod MetWriters
 pub mod MatchedWriters
 pub mod ChangesDue
 pub mod Ends

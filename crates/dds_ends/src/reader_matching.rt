@@ -120,6 +120,7 @@ impl ReaderEnd {
     /// RTPS 2.5, 8.4.10.3 (matched_writer_add).
     pub fn meet(&mut self, name: WriterName, as_writer: MatchedWriter) -> Result<usize, Code>
         ensures ok { IfOk result (λ row. MeetsWriter self.old name as_writer row self.new) }
+        ensures few { IfOk result (λ row. row < max_known) }
         ensures accepted { OnOk result
             (RefusesWriterSo self.old name.writer (λ refusal. refusal ≡ None)) }
         ensures refused { IfErr result

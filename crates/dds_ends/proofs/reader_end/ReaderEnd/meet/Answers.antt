@@ -1,7 +1,9 @@
-use Rattle.std.proofs.Common.{ℕ, ◌<◌, Bool, true, false, List, arith, length, rules, subst}
+use Rattle.std.proofs.Common.{ℕ, ◌<◌, ◌≤◌, Bool, true, false, List, ap, arith, length, rules, subst}
 use Rattle.dds_base.specs.declared.code.Code.TheVariants.{OutOfResources, PreconditionNotMet}
 use Rattle.dds_base.specs.declared.endpoint.Endpoint.{Endpoint}
+use Rattle.dds_machine.specs.Matching.{max_known}
 use Rattle.dds_ends.specs.declared.matching.WriterName.{WriterName}
+use Rattle.dds_ends.specs.Kept.{ReaderKept}
 use Rattle.dds_ends.specs.Standing.{HasNoRow, IsFirstRow}
 use Rattle.dds_ends.proofs.Lists.{get-within}
 use Rattle.dds_ends.proofs.MeetingWriters.{as_many, full_refusal, knows_refusal, meets_known, meets_new, new_accepted, on_rows, refused_for, refused_memory}
@@ -74,6 +76,16 @@ returns-clause-ok c =
     (on_rows (λ ns. IsFirstRow ns c.args.name.writer c.in-Some.row) c.self.view_is c.as_slice.ensures.value
     c.in-Some.ensures)
     c.attach.ensures.attaches
+
+pub returns-clause-few : goal.returns-clause-few
+returns-clause-few c =
+    let many : length c.self.inside.writers.items ≤ max_known = c.self.invariant.many in
+    let same = ap (λ (k : ReaderKept). length k.writers) c.self.view_is in
+    let lt =
+    within c.args.self.now.writers c.args.name.writer c.in-Some.row
+    (on_rows (λ ns. IsFirstRow ns c.args.name.writer c.in-Some.row) c.self.view_is c.as_slice.ensures.value
+    c.in-Some.ensures) in
+    omega (arith, many, same, lt)
 
 pub returns-clause-accepted : goal.returns-clause-accepted
 returns-clause-accepted c =
