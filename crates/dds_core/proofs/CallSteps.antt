@@ -101,9 +101,6 @@ pub knows_still : (peer : Peer) (c : Call) (reply : Reply) (e : Effect) → effe
 knows_still peer (call.MatchReader w reader greeted) Done e is none =
     absurd (let bad = ap is_telling is ∙ none in cc)
 knows_still peer (call.MatchReader w reader greeted) reply e is none = refl
-knows_still peer (call.MeetReader w far greeted) Done e is none =
-    absurd (let bad = ap is_telling is ∙ none in cc)
-knows_still peer (call.MeetReader w far greeted) reply e is none = refl
 knows_still peer other reply e is none = refl
 
 -- a call that changes nothing

@@ -20,7 +20,7 @@ delivered report gone = record { reply = Reported report; packets = gone.packets
 
 pub delivers : (old new : PeerKept) (bytes : List ℕ) (report : Report) (gone : Announced)
     → ReceivesPacket old bytes report new gone → SoundSteps old (event.Deliver bytes) (delivered report gone) new
-delivers old new bytes report gone receives roster peer s sound met =
+delivers old new bytes report gone receives roster peer s sound =
     let r : ReceivedPacket roster peer bytes report new gone = receives roster peer s in
     let rests =
     takes_packet roster peer.number peer.delivered bytes

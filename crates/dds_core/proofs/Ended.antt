@@ -17,7 +17,6 @@ use Rattle.dds_protocol.specs.declared.event.Event.{Event}
 use Rattle.dds_protocol.specs.declared.event.Output.{Output}
 use Rattle.dds_machine.specs.Noticing.{at_end, each_told, reader_told, writer_told}
 use Rattle.dds_protocol.specs.Noticing.{peer_at_end}
-use Rattle.dds_machine.specs.Matching.{is_known}
 use Rattle.dds_machine.specs.Numbered.{HasNumber, numbered}
 use Rattle.dds_machine.specs.Part.{Part, WriterProxy, heard_of, place_of as reader_place}
 use Rattle.dds_protocol.specs.Opening.{opening_peers}
@@ -75,9 +74,6 @@ sound_at_end roster before peer sound =
       heard =
           λ w r count h. sound.heard w r count
           (ap (λ (xs : List (List WriterProxy)). heard_of (numbered xs r []) w) (sym rows) ∙ h);
-      then =
-          λ d r w among h. ap (λ (xs : List (List WriterProxy)). is_known (numbered xs r []) w) rows
-          ∙ sound.then d r w among h;
     }
 
 -- ---- entities
@@ -115,8 +111,8 @@ module _ {F L : Type 0} (notices : L → List Notice) (capacity : L → ℕ) (be
       → is_any old.listeners ≡ false → Steps notices capacity becomes tests old ev output
       (record { filtered = new; listeners = old.listeners })
   steps_untold tests old ev output new h none = record {
-    step = λ given roster peer s sound met.
-        let r = h.step roster peer s.stands sound met in
+    step = λ given roster peer s sound.
+        let r = h.step roster peer s.stands sound in
         let after : Peer = r.0 in
         let kept : after.part.dds.listeners ≡ peer.part.dds.listeners =
         keeps_listeners roster tests peer ev output after r.1 in
@@ -146,8 +142,8 @@ module _ {F L : Type 0} (notices : L → List Notice) (capacity : L → ℕ) (be
       → new.filters ≡ mid.filters → Steps notices capacity becomes tests old ev output
       (record { filtered = new; listeners = after })
   steps_told tests old ev output mid new after marks h marked tells same = record {
-    step = λ given roster peer s sound met.
-        let r = h.step roster peer s.stands sound met in
+    step = λ given roster peer s sound.
+        let r = h.step roster peer s.stands sound in
         let stepped : Peer = r.0 in
         let kept : stepped.part.dds.listeners ≡ peer.part.dds.listeners =
         keeps_listeners roster tests peer ev output stepped r.1 in
@@ -241,7 +237,6 @@ module _ {F L : Type 0} (notices : L → List Notice) (capacity : L → ℕ) (be
             claimed = sound.claimed;
             newest = sound.newest;
             heard = sound.heard;
-            then = sound.then;
           },
         );
   }

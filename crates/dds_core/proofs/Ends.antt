@@ -169,19 +169,21 @@ reader_stands_on k proxies r old new same s = record {
   here_is = s.here_is;
 }
 
--- own reader n has become another one of the roster, and knows what it knows now
-pub own_reader_put : (kept : PeerKept) (i : ℕ) (k' : ReaderKept) (proxies : List WriterProxy) (r : Reader)
-    (known : Known) (roster : Roster) (peer : Peer) → StandsFor kept roster peer
-    → IsPeerOf roster peer.number (identity_of (with_reader kept i k')) → known.answered ≡ peer.known.answered
+-- own reader n stepped, and knows what it knows now
+pub own_reader_stepped : (kept : PeerKept) (i : ℕ) (k k' : ReaderKept) (proxies : List WriterProxy) (r : Reader)
+    (known : Known) (roster : Roster) (peer : Peer) → StandsFor kept roster peer → slice_get kept.readers i ≡ Some k
+    → reader_identity k' ≡ reader_identity k → known.answered ≡ peer.known.answered
     → ((w : Endpoint) (n : ℕ) → (n ≡ suc i → ⊥) → known.tracked w n ≡ peer.known.tracked w n)
     → ReaderStands k' proxies r (λ w. known.tracked w (suc i))
     → StandsFor (with_reader kept i k') roster
     (record peer { part = with_read peer.part (suc i) proxies r; known = known })
-own_reader_put kept i k' proxies r known roster peer s is_peer counts others stands =
+own_reader_stepped kept i k k' proxies r known roster peer s at same counts others stands =
     let ps : List (List WriterProxy) = peer.part.rtps.readers in
     let rs : List Reader = peer.part.dds.readers in
     record {
-      is_peer = is_peer;
+      is_peer =
+          subst (λ (x : Identity). IsPeerOf roster peer.number x)
+          (sym (same_with_reader kept i k k' at same)) s.is_peer;
       moment = s.moment;
       early = s.early;
       names = s.names;
@@ -203,19 +205,6 @@ own_reader_put kept i k' proxies r known roster peer s is_peer counts others sta
       };
       tellable = s.tellable;
     }
-
--- own reader n stepped, and knows what it knows now
-pub own_reader_stepped : (kept : PeerKept) (i : ℕ) (k k' : ReaderKept) (proxies : List WriterProxy) (r : Reader)
-    (known : Known) (roster : Roster) (peer : Peer) → StandsFor kept roster peer → slice_get kept.readers i ≡ Some k
-    → reader_identity k' ≡ reader_identity k → known.answered ≡ peer.known.answered
-    → ((w : Endpoint) (n : ℕ) → (n ≡ suc i → ⊥) → known.tracked w n ≡ peer.known.tracked w n)
-    → ReaderStands k' proxies r (λ w. known.tracked w (suc i))
-    → StandsFor (with_reader kept i k') roster
-    (record peer { part = with_read peer.part (suc i) proxies r; known = known })
-own_reader_stepped kept i k k' proxies r known roster peer s at same counts others stands =
-    own_reader_put kept i k' proxies r known roster peer s
-    (subst (λ (x : Identity). IsPeerOf roster peer.number x) (sym (same_with_reader kept i k k' at same)) s.is_peer)
-    counts others stands
 
 -- setting what is there changes nothing
 set_same : {X : Type 0} (xs : List X) (i : ℕ) (d : X) → set xs i (get_or xs i d) ≡ xs

@@ -32,8 +32,8 @@ pub steps : {F : Type 0} (tests : Tests) (old : FilteredKept F) (ev : Event) (ou
     → SoundStepsBy tests old.peer ev output new
     → Steps tests old ev output (record { peer = new; filters = old.filters })
 steps tests old ev output new h = record {
-  step = λ roster peer s sound met.
-      let r = h roster peer s.stands sound met in (
+  step = λ roster peer s sound.
+      let r = h roster peer s.stands sound in (
         r.0,
         r.1,
         record {
@@ -78,7 +78,6 @@ adds old filter number new filters left is kept more = record {
           claimed = sound.claimed;
           newest = sound.newest;
           heard = sound.heard;
-          then = sound.then;
         },
       );
 }

@@ -5,8 +5,6 @@ pub mod CallSteps
 pub mod AssertSteps
 pub mod StrengthSteps
 pub mod ReaderSteps
-pub mod MetReaders
-pub mod MetWriters
 pub mod MatchedWriters
 pub mod ChangesDue
 pub mod Ends

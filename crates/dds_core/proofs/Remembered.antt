@@ -18,17 +18,12 @@ use Rattle.dds_notices.specs.declared.notice.Notice.{Notice}
 use Rattle.dds_notices.specs.Listeners.{ByEntity, listener_place, with_entity}
 use Rattle.rtps_reader.specs.Tracked.{Tracked}
 use Rattle.dds_base.specs.declared.endpoint.Endpoint.{Endpoint}
-use Rattle.dds_machine.specs.declared.call.Call.TheVariants as call
-use Rattle.dds_machine.specs.declared.reply.Reply.{Reply}
-use Rattle.dds_machine.specs.declared.reply.Reply.TheVariants.{Done, InstanceHandle}
 use Rattle.dds_machine.specs.Noticing.{at_end}
 use Rattle.dds_machine.specs.Part.{Part, Reader, WriterProxy, no_reader, own_reader}
 use Rattle.dds_machine.specs.Watching.{Test, Tests, test_of}
 use Rattle.dds_protocol.specs.declared.event.Event.{Event}
-use Rattle.dds_protocol.specs.declared.event.Event.TheVariants as event
 use Rattle.dds_protocol.specs.declared.event.Output.{Output}
 use Rattle.dds_protocol.specs.Filters.{peer_with_filter}
-use Rattle.dds_protocol.specs.Meetings.{MeetsByRoster}
 use Rattle.dds_protocol.specs.Noticing.{peer_at_end, peer_with_place}
 use Rattle.dds_protocol.specs.Peer.{Peer}
 use Rattle.dds_protocol.proofs.GoesOn.{GoesOn, each_goes_on, end_goes_on, longer, no_more}
@@ -149,12 +144,6 @@ still_nothing tests old new miss is goes =
           (no_more before.happened after.happened goes.more count) ∙ is.none (sym count ∙ same));
     }
 
--- open: no roster need have whom a peer meets by the two calls, so the state that is remembered need not go on
-pub met_there : (roster : Roster) (number : ℕ) (ev : Event) (reply : Reply) → MeetsByRoster roster number ev reply
-met_there roster number (event.Call (call.MeetReader writer far greeted)) Done = ?the_roster_has_the_reader
-met_there roster number (event.Call (call.MeetWriter reader far)) (InstanceHandle handle) = ?the_roster_has_the_writer
-met_there roster number other reply = tt
-
 module _ {F L : Type 0} (notices : L → List Notice) (capacity : L → ℕ) (becomes : L → Notice → L → Type 0)
     (meaning : F → Key → List ℕ → Bool) where
   -- what is remembered is right
@@ -166,14 +155,13 @@ module _ {F L : Type 0} (notices : L → List Notice) (capacity : L → ℕ) (be
 
   -- what was right before an event, and is remembered after it
   pub remembers_on : (old : CoreKept F L) (before misses : List Miss) (ev : Event) (output : Output) (new : CoreKept F L)
-      → (r : Remembers notices capacity becomes meaning old before)
+      → Remembers notices capacity becomes meaning old before
       → AreMisses (tests_of meaning old.filtered.filters) old.filtered.peer misses
       → Steps notices capacity becomes (tests_of meaning old.filtered.filters) old ev output new
-      → MeetsByRoster r.roster r.peer.number ev output.reply
       → Remembers notices capacity becomes meaning new misses
-  remembers_on old before misses ev output new r right h met =
+  remembers_on old before misses ev output new r right h =
       let tests : Tests = tests_of meaning old.filtered.filters in
-      let s = h.step r.given r.roster r.peer r.stands r.sound met in
+      let s = h.step r.given r.roster r.peer r.stands r.sound in
       let stepped : Peer = s.0 in
       record {
         given = r.given;

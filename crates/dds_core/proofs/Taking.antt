@@ -26,7 +26,6 @@ use Rattle.dds_machine.specs.declared.reply.Move.{Move}
 use Rattle.dds_machine.specs.declared.reply.Report.{Report}
 use Rattle.dds_machine.specs.declared.reply.Reply.{Reply}
 use Rattle.dds_machine.specs.declared.call.Call.{Call}
-use Rattle.dds_machine.specs.Matching.{is_known}
 use Rattle.dds_machine.specs.Numbered.{numbered, HasNumber}
 use Rattle.rtps_reader.specs.Tracked.{Tracked}
 use Rattle.dds_base.specs.Counts.{is_later}
@@ -47,7 +46,7 @@ use Rattle.dds_core.proofs.TakenSoFar.{TakenTo, TakesTo}
 use Rattle.dds_ends.specs.Sending.{AreMessages}
 use Rattle.dds_core.specs.Standing.{StandsFor}
 use Rattle.dds_core.specs.Ruling.{IsSound}
-use Rattle.dds_core.specs.Stepping.{Sends, Steps, StepsMeeting, SoundSteps, SoundStepsBy}
+use Rattle.dds_core.specs.Stepping.{Sends, Steps, StepsBy, SoundSteps, SoundStepsBy}
 use Rattle.dds_machine.specs.Watching.{Tests}
 use Rattle.dds_protocol.proofs.Contacts.{call_knows, tick_knows}
 use Rattle.dds_protocol.proofs.Growth.{TickStep-rows}
@@ -372,14 +371,13 @@ sound_still roster old new number known delivered readers b =
       heard = λ w r count e.
           ap (λ (t : Tracked). is_later t.count count) (known w r)
           ∙ b.heard w r count (ap (λ xs. heard_of (numbered xs r []) w) (sym readers) ∙ e);
-      then = λ d r w among h. ap (λ xs. is_known (numbered xs r []) w) readers ∙ b.then d r w among h;
     }))
 
 pub sound_call : {tests : Tests} (old new : PeerKept) (call : Call) (output : Output)
-    → StepsMeeting tests old (event.Call call) output new → Sends old (event.Call call) output
+    → StepsBy tests old (event.Call call) output new → Sends old (event.Call call) output
     → SoundStepsBy tests old (event.Call call) output new
-sound_call {tests} old new call output steps sends roster peer s sound met =
-    let r = steps roster peer s met in
+sound_call {tests} old new call output steps sends roster peer s sound =
+    let r = steps roster peer s in
     let told : IsSound roster (record peer { part = r.0.part }) =
     call_backed roster peer.number (packets_of peer.delivered) peer.delivered (state_of peer) tests call output.reply
     r.0.part r.1.step.0 sound in (
@@ -393,7 +391,7 @@ sound_call {tests} old new call output steps sends roster peer s sound met =
 
 pub sound_tick : (old new : PeerKept) (now : ℕ) (output : Output) → Steps old (event.Tick now) output new
     → Sends old (event.Tick now) output → SoundSteps old (event.Tick now) output new
-sound_tick old new now output steps sends roster peer s sound met =
+sound_tick old new now output steps sends roster peer s sound =
     let r = steps roster peer s in (
       r.0,
       r.1,

@@ -26,7 +26,7 @@ pub resumes : (old new : PeerKept) (reader i : ℕ) (report : Report) → reader
     → ResumesAll old i report new → SoundSteps old (event.Resume reader) (silent (Reported report)) new
 resumes old new reader i report is within resumed =
     subst (λ (n : ℕ). SoundSteps old (event.Resume n) (silent (Reported report)) new) (number_is reader i is)
-    (λ roster peer s sound met.
+    (λ roster peer s sound.
     let r = resumed roster peer s in
     let tried =
     resumes_tried roster peer.number (packets_of peer.delivered) peer.delivered (suc i) (state_of peer) report r.state sound
@@ -52,7 +52,7 @@ resumes old new reader i report is within resumed =
 
 pub resumes_none : (old : PeerKept) (reader : ℕ) → is_number reader (length old.readers) ≡ false
     → SoundSteps old (event.Resume reader) (silent (Refused BadParameter)) old
-resumes_none old reader none roster peer s sound met = (
+resumes_none old reader none roster peer s sound = (
   peer,
   record {
     same_number = refl;

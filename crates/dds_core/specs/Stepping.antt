@@ -9,7 +9,6 @@ use Rattle.dds_machine.specs.Calls.{effect_of}
 use Rattle.dds_machine.specs.Watching.{Tests}
 use Rattle.dds_conditions.specs.NoFilters.{no_filters}
 use Rattle.dds_protocol.specs.DueMessages.{AreSent}
-use Rattle.dds_protocol.specs.Meetings.{MeetsByRoster}
 use Rattle.dds_protocol.specs.Peer.{Peer, PeerStep}
 use Rattle.dds_core.specs.Kept.{PeerKept}
 use Rattle.dds_core.specs.Standing.{StandsFor}
@@ -22,13 +21,7 @@ abbrev pub StepsBy : Tests → PeerKept → Event → Output → PeerKept → Ty
 StepsBy tests old event output new = (roster : Roster) (peer : Peer) → StandsFor old roster peer
     → (after : Peer) × PeerStep roster tests peer event output after × StandsFor new roster after
 
--- the same of an event by which the peer meets nobody but whom the roster has
-abbrev pub StepsMeeting : Tests → PeerKept → Event → Output → PeerKept → Type 0
-StepsMeeting tests old event output new = (roster : Roster) (peer : Peer) → StandsFor old roster peer
-    → MeetsByRoster roster peer.number event output.reply
-    → (after : Peer) × PeerStep roster tests peer event output after × StandsFor new roster after
-
--- the same of any event in which no filter has a say
+-- the same of an event in which no filter has a say
 abbrev pub Steps : PeerKept → Event → Output → PeerKept → Type 0
 Steps old event output new = StepsBy no_filters old event output new
 
@@ -44,13 +37,11 @@ Sends old (event.Tick now) output =
 Sends old (event.Deliver packet) output = Unit {0}
 Sends old (event.Resume reader) output = Unit {0}
 
--- For each state that the old values stand for, and of which all that is known was claimed, the event, by which the peer
--- meets nobody but whom the roster has, is a step to one that the new values stand for, and of which all that is known was
--- claimed; it follows the rules of the protocol.
+-- For each state that the old values stand for, and of which all that is known was claimed, the event is a step to one
+-- that the new values stand for, and of which all that is known was claimed; it follows the rules of the protocol.
 abbrev pub SoundStepsBy : Tests → PeerKept → Event → Output → PeerKept → Type 0
 SoundStepsBy tests old event output new =
     (roster : Roster) (peer : Peer) → StandsFor old roster peer → IsSound roster peer
-    → MeetsByRoster roster peer.number event output.reply
     → (after : Peer) × PeerStep roster tests peer event output after × StandsFor new roster after × IsSound roster after
     × KeepsRules roster peer event output after
 

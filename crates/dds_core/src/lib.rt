@@ -42,7 +42,6 @@ mod by_filter;
 mod calls;
 mod delivery;
 mod effects;
-mod far_ends;
 mod filtered_peer;
 mod lent_event;
 mod matching_readers;

@@ -9,7 +9,6 @@
 
 mod call;
 mod event;
-mod far;
 mod reply;
 
 pub use call::Call;
@@ -18,5 +17,4 @@ pub use dds_base::{
     SampleLostStatus,
 };
 pub use event::WorldEvent;
-pub use far::{FarReader, FarWriter};
 pub use reply::{Move, Reply, Report};

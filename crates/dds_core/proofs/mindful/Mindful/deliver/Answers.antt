@@ -21,4 +21,4 @@ pub invariant_of-self : goal.invariant_of-self
 invariant_of-self g c =
     remembers_on g.L.Listener.notices g.L.Listener.capacity g.L.Listener.becomes g.F.Filter.meaning c.self.inside.core
     c.self.inside.misses c.happen.new.misses (event.Deliver c.args.packet.now) c.happen.result c.happen.new.self
-    c.self.invariant c.happen.ensures.right c.happen.ensures.step tt
+    c.self.invariant c.happen.ensures.right c.happen.ensures.step

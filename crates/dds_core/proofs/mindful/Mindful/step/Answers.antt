@@ -1,7 +1,7 @@
 use Rattle.std.proofs.Common.{subst}
 use Rattle.dds_conditions.specs.Filtered.{tests_of}
 use Rattle.dds_core.specs.Listening.{CoreKept, Steps}
-use Rattle.dds_core.proofs.Remembered.{are_right, met_there, remembers_on}
+use Rattle.dds_core.proofs.Remembered.{are_right, remembers_on}
 use Rattle.dds_core.proofs.mindful.Mindful.step.Goals as goal
 
 pub step_with-requires : goal.step_with-requires
@@ -21,4 +21,3 @@ invariant_of-self g c =
     remembers_on g.L.Listener.notices g.L.Listener.capacity g.L.Listener.becomes g.F.Filter.meaning c.self.inside.core
     c.self.inside.misses c.step_with.new.misses c.args.event c.step_with.result c.step_with.new.self
     c.self.invariant c.step_with.ensures.right c.step_with.ensures.step
-    (met_there c.self.invariant.roster c.self.invariant.peer.number c.args.event c.step_with.result.reply)

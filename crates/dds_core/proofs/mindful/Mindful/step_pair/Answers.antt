@@ -1,7 +1,7 @@
 use Rattle.std.proofs.Common.{subst}
 use Rattle.dds_conditions.specs.Filtered.{tests_of}
 use Rattle.dds_core.specs.Listening.{CoreKept, Steps}
-use Rattle.dds_core.proofs.Remembered.{are_right, met_there, remembers_on}
+use Rattle.dds_core.proofs.Remembered.{are_right, remembers_on}
 use Rattle.dds_core.proofs.Twice.{loses_messages, loses_steps}
 use Rattle.dds_core.proofs.mindful.Mindful.step_pair.Goals as goal
 
@@ -31,4 +31,3 @@ invariant_of-self g c =
     remembers_on g.L.Listener.notices g.L.Listener.capacity g.L.Listener.becomes g.F.Filter.meaning c.self.inside.core
     c.self.inside.misses c.step_with-output.new.misses c.args.event c.step_with-output.result c.step_with-output.new.self
     c.self.invariant c.step_with-output.ensures.right c.step_with-output.ensures.step
-    (met_there c.self.invariant.roster c.self.invariant.peer.number c.args.event c.step_with-output.result.reply)

@@ -6,7 +6,7 @@ use Rattle.std.proofs.lemmas.Int.{to_z-of_z}
 use Rattle.dds_machine.specs.declared.call.Call.TheVariants as call
 use Rattle.dds_protocol.specs.declared.event.Event.TheVariants as event
 use Rattle.dds_core.specs.Stepping.{Steps}
-use Rattle.dds_core.proofs.AnyTests.{called, called_to_meet, meets_none, plainly_called}
+use Rattle.dds_core.proofs.AnyTests.{called, plainly_called}
 use Rattle.dds_core.proofs.Twice.{plain_twin}
 use Rattle.dds_core.proofs.peer.Peer.call.Goals as goal
 
@@ -62,11 +62,11 @@ returns-in-GetLivelinessLost-clause-step g c =
 
 pub returns-in-ReadByCondition-clause-step : goal.returns-in-ReadByCondition-clause-step
 returns-in-ReadByCondition-clause-step g c =
-    called _ _ _ _ _ _ c.in-ReadByCondition.is (meets_none _ _ _ _ _ c.access_by_condition.ensures.step)
+    called _ _ _ _ _ _ c.in-ReadByCondition.is c.access_by_condition.ensures.step
 
 pub returns-in-TakeByCondition-clause-step : goal.returns-in-TakeByCondition-clause-step
 returns-in-TakeByCondition-clause-step g c =
-    called _ _ _ _ _ _ c.in-TakeByCondition.is (meets_none _ _ _ _ _ c.access_by_condition-in-TakeByCondition.ensures.step)
+    called _ _ _ _ _ _ c.in-TakeByCondition.is c.access_by_condition-in-TakeByCondition.ensures.step
 
 pub returns-in-CreateReadCondition-clause-step : goal.returns-in-CreateReadCondition-clause-step
 returns-in-CreateReadCondition-clause-step g c =
@@ -89,7 +89,7 @@ returns-in-DeleteCondition-clause-step g c =
     plainly_called _ _ _ _ _ _ c.in-DeleteCondition.is c.delete_condition.ensures.step refl
 
 pub returns-in-GetTriggerValue-clause-step : goal.returns-in-GetTriggerValue-clause-step
-returns-in-GetTriggerValue-clause-step g c = called _ _ _ _ _ _ c.in-GetTriggerValue.is (meets_none _ _ _ _ _ c.get_trigger_value.ensures.step)
+returns-in-GetTriggerValue-clause-step g c = called _ _ _ _ _ _ c.in-GetTriggerValue.is c.get_trigger_value.ensures.step
 
 pub returns-in-CreateWaitSet-clause-step : goal.returns-in-CreateWaitSet-clause-step
 returns-in-CreateWaitSet-clause-step g c =
@@ -115,7 +115,7 @@ pub returns-in-WaitBegin-clause-step : goal.returns-in-WaitBegin-clause-step
 returns-in-WaitBegin-clause-step g c = plainly_called _ _ _ _ _ _ c.in-WaitBegin.is c.wait_begin.ensures.step refl
 
 pub returns-in-WaitLook-clause-step : goal.returns-in-WaitLook-clause-step
-returns-in-WaitLook-clause-step g c = called _ _ _ _ _ _ c.in-WaitLook.is (meets_none _ _ _ _ _ c.wait_look.ensures.step)
+returns-in-WaitLook-clause-step g c = called _ _ _ _ _ _ c.in-WaitLook.is c.wait_look.ensures.step
 
 pub returns-in-WaitEnd-clause-step : goal.returns-in-WaitEnd-clause-step
 returns-in-WaitEnd-clause-step g c = plainly_called _ _ _ _ _ _ c.in-WaitEnd.is c.wait_end.ensures.step refl
@@ -145,12 +145,6 @@ returns-in-GetPublicationMatched-clause-step g c = plainly_called _ _ _ _ _ _ c.
 
 pub returns-in-GetSubscriptionMatched-clause-step : goal.returns-in-GetSubscriptionMatched-clause-step
 returns-in-GetSubscriptionMatched-clause-step g c = plainly_called _ _ _ _ _ _ c.in-GetSubscriptionMatched.is c.get_subscription_matched.ensures.step refl
-
-pub returns-in-MeetReader-clause-step : goal.returns-in-MeetReader-clause-step
-returns-in-MeetReader-clause-step g c = called_to_meet _ _ _ _ _ _ c.in-MeetReader.is c.meet_reader.ensures.step refl
-
-pub returns-in-MeetWriter-clause-step : goal.returns-in-MeetWriter-clause-step
-returns-in-MeetWriter-clause-step g c = called_to_meet _ _ _ _ _ _ c.in-MeetWriter.is c.meet_writer.ensures.step refl
 
 pub returns-in-Register-clause-twin : goal.returns-in-Register-clause-twin
 returns-in-Register-clause-twin g c = plain_twin c.args.twin.now c.register.result.reply c.register.ensures.plain
@@ -244,9 +238,3 @@ returns-in-GetPublicationMatched-clause-twin g c = plain_twin c.args.twin.now c.
 
 pub returns-in-GetSubscriptionMatched-clause-twin : goal.returns-in-GetSubscriptionMatched-clause-twin
 returns-in-GetSubscriptionMatched-clause-twin g c = plain_twin c.args.twin.now c.get_subscription_matched.result.reply c.get_subscription_matched.ensures.plain
-
-pub returns-in-MeetReader-clause-twin : goal.returns-in-MeetReader-clause-twin
-returns-in-MeetReader-clause-twin g c = plain_twin c.args.twin.now c.meet_reader.result.reply c.meet_reader.ensures.plain
-
-pub returns-in-MeetWriter-clause-twin : goal.returns-in-MeetWriter-clause-twin
-returns-in-MeetWriter-clause-twin g c = plain_twin c.args.twin.now c.meet_writer.result.reply c.meet_writer.ensures.plain
