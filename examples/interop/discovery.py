@@ -14,6 +14,7 @@ LEASE = struct.pack("<iI", 20, 0)
 ENDLESS = struct.pack("<iI", 0x7FFFFFFF, 0xFFFFFFFF)
 LEASE_DURATION, TOPIC, TYPE, VERSION, VENDOR, RELIABILITY = 0x0002, 0x0005, 0x0007, 0x0015, 0x0016, 0x001A
 BEST_EFFORT, RELIABLE = 1, 2
+XCDR1 = 0
 LIVELINESS, DURABILITY, OWNERSHIP, DEFAULT_PLACE, BUILTIN_PLACE = 0x001B, 0x001D, 0x001F, 0x0031, 0x0032
 HISTORY, PARTICIPANT_GUID, BUILTIN_SET, ENDPOINT_GUID, REPRESENTATION = 0x0040, 0x0050, 0x0058, 0x005A, 0x0073
 Place = tuple[str, int]
@@ -53,7 +54,7 @@ def endpoint(guid: bytes, topic: Topic) -> bytes:
         (HISTORY, struct.pack("<II", 1, 0)),
         (OWNERSHIP, struct.pack("<I", 0)),
         (LIVELINESS, struct.pack("<I", 0) + ENDLESS),
-        (REPRESENTATION, struct.pack("<IH", 1, 0)),
+        (REPRESENTATION, struct.pack("<IH", 1, XCDR1)),
     )
 
 
@@ -61,7 +62,27 @@ class End(NamedTuple):
     """A writer or a reader of the other participant."""
 
     guid: bytes
+    type_name: str
     is_best_effort: bool
+    durability: int
+    has_xcdr1: bool
+
+    @property
+    def has_key(self) -> bool:
+        """Whether its type has one: the last octet of its entity id says so."""
+        return self.guid[15] in (2, 7)
+
+
+def text_of(string: bytes) -> str:
+    return string[4:].split(b"\0")[0].decode()
+
+
+def end_of(found: dict[int, bytes], reliability: bytes) -> End:
+    """What SEDP says of it; the policy is that of one that says none."""
+    kind = struct.unpack_from("<I", found.get(RELIABILITY, reliability))[0]
+    durability, count = (struct.unpack_from("<I", found.get(it, bytes(4)))[0] for it in (DURABILITY, REPRESENTATION))
+    representations = struct.unpack_from(f"<{count}h", found[REPRESENTATION], 4) if count else (XCDR1,)
+    return End(found[ENDPOINT_GUID], text_of(found[TYPE]), kind == BEST_EFFORT, durability, XCDR1 in representations)
 
 
 class Announced:
@@ -81,9 +102,7 @@ class Announced:
             self.known.add(came.number)
             if came.payload and not came.status:
                 found = m.read_parameters(came.payload)
-                name = found[TOPIC][4:].split(b"\0")[0].decode()
-                said_of = found.get(RELIABILITY, self.reliability)
-                self.ends[name] = End(found[ENDPOINT_GUID], struct.unpack_from("<I", said_of)[0] == BEST_EFFORT)
+                self.ends[text_of(found[TOPIC])] = end_of(found, self.reliability)
         elif said.kind == m.HEARTBEAT and said.body[4:8] == self.key + WRITER:
             self.known |= set(range(1, min(said.sequence_number(8), 1 << 16)))
             self.last, self.owes_answer = min(said.sequence_number(16), 1 << 16), True
@@ -113,6 +132,9 @@ class Announcing:
     def take(self, said: m.Submessage) -> None:
         if said.kind == m.ACKNACK and said.body[4:8] == self.key + WRITER:
             self.acknowledged = said.sequence_number(8) - 1
+
+    def is_known(self) -> bool:
+        return bool(self.payloads) and self.acknowledged >= len(self.payloads)
 
     def due(self) -> list[bytes]:
         if self.acknowledged >= len(self.payloads):
