@@ -7,7 +7,8 @@
 ghost use Rattle.adapter_laws.specs.Networks.{AdaptersChangeNothing};
 
 /// A network with adapters of one table at both ends is the network without them: each packet that it sends comes to its
-/// peer as it was, octet for octet, where each change is one of the type that its topic carries.
+/// peer as it was, octet for octet, where each change is one of the type that its topic carries, and what went out is no
+/// longer than a message may be.
 pub fn adapters_change_nothing()
     // Each packet that was sent since the opening does so.
     ensures same { AdaptersChangeNothing }

@@ -25,7 +25,7 @@ impl Model for Handle {
 }
 
 impl Handle {
-    /// HANDLE_NIL: it names nothing. `docs/DECISIONS.md`, "Types".
+    /// HANDLE_NIL: it names nothing.
     pub const NIL: Handle = Handle { number: 0 };
 
     /// The handle of this number, from 1; of 0 it is `NIL`.

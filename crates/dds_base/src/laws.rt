@@ -223,7 +223,7 @@ pub fn unfit_policies_are_those_not_offered()
 /// A configuration that is taken matches a best-effort writer with best-effort readers alone. So at the opening it keeps
 /// nothing, and waits for nobody.
 ///
-/// DDS 1.4, 2.2.3 (RELIABILITY); RTPS 2.5, 8.4.8 (best-effort StatefulWriter).
+/// DDS 1.4, 2.2.3 (RELIABILITY); RTPS 2.5, 8.4.9 (best-effort StatefulWriter).
 pub fn a_best_effort_writer_has_no_reliable_reader()
     // Its topic has no reliable reader.
     ensures none { (peers : List PeerConfig) (i k : ℕ) (p : PeerConfig) (w : WriterConfig)

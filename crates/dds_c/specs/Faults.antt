@@ -73,8 +73,8 @@ flat_of f = record {
 abbrev pub no_peer_fault : FlatFault
 no_peer_fault = record { code = 3; rule = 0; place = 0; peer = 0; number = 0 }
 
--- some sentence is copied as far as it fits, beside the fault; where there is none the code is 11, and where there is no
--- memory for the sentence 100, and nothing is written
+-- the fault is written, and some sentence copied where it fits as a whole; where there is no fault the code is 11, and
+-- where there is no memory for the sentence 100, and nothing is written
 abbrev pub FaultWritten : Option ConfigFault → (was fault : FlatFault) → (old new : List ℕ) → (before needed code : ℕ)
     → Type 0
 FaultWritten None was fault old new before needed code = WritesNothing was fault old new before needed 11 code
@@ -106,8 +106,8 @@ FaultSaid peers writers readers was fault old new before needed code =
     ⊎ (IsFaultless peers writers readers × WritesNothing was fault old new before needed 11 code)
     ⊎ WritesNothing was fault old new before needed 100 code
 
--- some text is copied as far as it fits, which no clause spells, or nothing, as there is no cause (code 11), or no memory
--- (code 100)
+-- some text, which no clause spells, is copied where it fits as a whole; or nothing is, as there is no cause (code 11), or
+-- no memory (code 100)
 abbrev pub CauseWritten : (old new : List ℕ) → (before needed code : ℕ) → Type 0
 CauseWritten old new before needed code =
     ((octets : List ℕ) × Copies octets old new needed code)

@@ -158,7 +158,7 @@ pub extern "C" fn cw_line_fault(
     buffer: &mut [u8],
     needed: &mut usize,
 ) -> u8
-    // Some text is copied as far as it fits, which no clause spells, or nothing for its cause.
+    // Some text, which no clause spells, is copied where it fits as a whole; else nothing is, for its cause.
     ensures text { CauseWritten buffer.old buffer.new needed.old needed.new result }
 {
     match line_cause(alloc, line) {
@@ -182,7 +182,7 @@ pub extern "C" fn cw_text_fault(
     buffer: &mut [u8],
     needed: &mut usize,
 ) -> u8
-    // Some text is copied as far as it fits, which no clause spells, or nothing for its cause.
+    // Some text, which no clause spells, is copied where it fits as a whole; else nothing is, for its cause.
     ensures text { CauseWritten buffer.old buffer.new needed.old needed.new result }
 {
     let Ok(text) = str::from_utf8(text) else {
@@ -243,7 +243,7 @@ pub extern "C" fn cw_text(
     buffer: &mut [u8],
     needed: &mut usize,
 ) -> u8
-    // Some text is copied as far as it fits, which no clause spells, or nothing for its cause.
+    // Some text, which no clause spells, is copied where it fits as a whole; else nothing is, for its cause.
     ensures text { TextFetched peer.old.held.session
         buffer.old buffer.new needed.old needed.new result }
     // Nothing happens to the peer.

@@ -70,8 +70,7 @@ fn number_of_history(history: HistoryQos) -> u64
     }
 }
 
-/// How long values may be, where that is not as usual: so a configuration that says nothing of it has the sum that it had
-/// before there was such a policy.
+/// How long values may be, where that is not as usual: else the sum is that of the other policies.
 #[tactic(auto, unfolding(crate::specs::Sums::mixed_value))]
 fn mix_value(sum: u64, max_value: u32) -> u64
     ensures { result ≡ mixed_value sum max_value }
@@ -83,8 +82,7 @@ fn mix_value(sum: u64, max_value: u32) -> u64
     }
 }
 
-/// That a writer is best-effort, where it is: so a configuration of reliable writers has the sum that it had before there
-/// were others.
+/// That a writer is best-effort, where it is: else the sum is that of the other policies.
 fn mix_best_effort(sum: u64, reliability: ReliabilityQos) -> u64
     ensures { result ≡ mixed_best_effort sum reliability }
 {

@@ -108,9 +108,8 @@ impl ReaderCache {
     }
 
     /// Makes room for so many more entries: as many that follow find it. Each of them then has a place for the sample that
-    /// it brings, and one for the sample that the end of its instance leaves, so a death wants no memory.
-    /// `docs/DECISIONS.md`, "A reader's cache", says what that costs. Where an instance is known there is room for some
-    /// entries more, if there is memory for them.
+    /// it brings, and one for the sample that the end of its instance leaves, so a death wants no memory. Where an
+    /// instance is known there is room for some entries more, if there is memory for them.
     ///
     /// # Errors
     ///
@@ -348,7 +347,7 @@ impl ReaderCache {
     }
 
     /// Takes up a change that came. Its writer is a matched one. Room by the limits of the policies is the caller's
-    /// affair: a change is taken up also where they are then exceeded. `docs/DECISIONS.md`, "A reader's cache".
+    /// affair: a change is taken up also where they are then exceeded.
     ///
     /// # Errors
     ///

@@ -10,7 +10,7 @@ ghost use Rattle.dds_lease.specs.Overdue.{is_over_at};
 use dds_base::{Handle, MatchedWriter, Moment};
 use std::alloc::{AllocError, Global};
 
-/// A matched writer's lease, and what was heard of it. `docs/DECISIONS.md`, "Types", says why these are four states.
+/// A matched writer's lease, and what was heard of it.
 #[derive(Clone, Copy)]
 pub struct LeaseTrack {
     /// In units of 2^-32 second; `None` never ends.

@@ -71,7 +71,7 @@ AllTests = ℕ → Tests
 
 -- From old, when so many packets were sent, the machine may give this reply to the event and go on to new. Which moves
 -- a delivery makes, and a reader whose places are tried again, is its choice among the legal ones, and at a tick which
--- writers use a count though no reader is behind; every other reply is determined.
+-- writers use a count though no reader is behind; every other reply is determined, up to want of memory.
 abbrev pub Step : AllTests → ℕ → Machine → WorldEvent → Reply → Machine → Type 0
 Step tests sent old (event.Call peer call) reply new =
     AtPeer old peer (λ after. CallStep (tests peer) (part_at old peer) call reply after) new

@@ -243,7 +243,7 @@ pub enum Call {
     },
 }
 
-// Arm by arm, so that the copy is equal to the call: `docs/DECISIONS.md`, "What is alike, and stays".
+// Arm by arm, so that the copy is equal to the call.
 impl Clone for Call {
     ghost is_clone = { λ call copy. copy ≡ call };
 

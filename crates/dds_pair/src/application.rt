@@ -26,7 +26,6 @@ const WORKERS: u64 = 2;
 const MAX_LOOKS: u32 = 2_000;
 
 // How often it takes at most: where nothing comes it takes once in a millisecond, so for an hour or more.
-// `docs/DECISIONS.md`, "Threads and links".
 const MAX_TAKES: u32 = 3_600_000;
 
 /// What the application goes to work with.

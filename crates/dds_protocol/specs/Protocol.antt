@@ -445,8 +445,7 @@ pub record TakesMessage (roster : Roster) (peer : ℕ) (bytes : List ℕ) (old :
   pub follows : FollowsMessage roster (roster.prefix peer) peer 0
       (receiver_of message.prefix) message.submessages old report.moves report.refused dues new
 
--- what the peer of this number does with a packet: else the bytes are no message, or one for whose reading there was no
--- memory
+-- what the peer of this number does with a packet: nothing where the bytes are no message
 abbrev pub TakesPacket : Roster → ℕ → List ℕ → State → Report → List Due → State → Type 0
 TakesPacket roster peer bytes old report dues new =
     TakesMessage roster peer bytes old report dues new

@@ -1,4 +1,6 @@
 -- What a trace shows.
+--
+-- Traces are this project's own.
 use Rattle.std.specs.Prelude.{ℕ, List}
 use Rattle.dds_trace.specs.declared.trace.Entry.{Entry}
 

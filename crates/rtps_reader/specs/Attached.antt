@@ -1,7 +1,7 @@
 -- How a reader stands to the writers that it knows, and what a submessage does by that: to one that it is not matched
 -- with, nothing. Where its place waits, a HEARTBEAT begins it at a reliable reader, and a DATA at a best-effort one.
 --
--- RTPS 2.5, 8.4.10 (StatefulReader: matched_writers), 8.4.11, 8.4.12.
+-- RTPS 2.5, 8.4.10 (StatefulReader: matched_writers), 8.4.12.
 use Rattle.std.specs.Prelude.{◌≡◌, ◌≢◌, ℕ, ◌+◌, ◌&&◌, Bool, true, false, not, nat_le, max, List, []}
 use Rattle.std.specs.Prelude.{◌-◌, None, Some, length, take}
 use Rattle.dds_base.specs.declared.change.Change.{Change}

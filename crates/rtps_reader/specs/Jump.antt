@@ -1,7 +1,7 @@
 -- What a change does at a best-effort reader: it comes, over all numbers before it, unless it is of a number that the
 -- reader has passed, or has no room.
 --
--- DDS 1.4, 2.2.3 (RELIABILITY: BEST_EFFORT); RTPS 2.5, 8.4.11 (best-effort StatefulReader).
+-- DDS 1.4, 2.2.3 (RELIABILITY: BEST_EFFORT); RTPS 2.5, 8.4.12 (best-effort StatefulReader).
 use Rattle.std.specs.Prelude.{◌≡◌, ℕ, ◌+◌, ◌-◌, ◌&&◌, Bool, true, false, nat_le, nat_lt, if◌then◌else◌, List, [], ◌∷◌}
 use Rattle.dds_base.specs.declared.change.Change.{Change}
 use Rattle.dds_base.specs.declared.happening.Happening.{Happening}

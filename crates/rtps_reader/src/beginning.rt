@@ -1,6 +1,6 @@
 //! How the place of a reader that waits begins.
 //!
-//! RTPS 2.5, 8.4.10 (WriterProxy), 8.4.11, 8.4.12 (missing_changes_update).
+//! RTPS 2.5, 8.4.10 (WriterProxy), 8.4.12 (missing_changes_update).
 
 ghost use Rattle.std.specs.Prelude.{◌≡◌, ℕ, ◌≤◌, max, List, length, true, false, None, OnOk, IsOk, IfOk};
 ghost use Rattle.dds_base.specs.Bounds.{max_sn};

@@ -1,6 +1,6 @@
 //! A writer that a reader knows: how the reader stands to it, and so what its submessages do.
 //!
-//! RTPS 2.5, 8.4.10 (StatefulReader: matched_writers), 8.4.11, 8.4.12.
+//! RTPS 2.5, 8.4.10 (StatefulReader: matched_writers), 8.4.12.
 
 ghost use Rattle.std.specs.Prelude.{◌≡◌, ℕ, ◌≤◌, List, length, true, false, OnOk, IsOk, IfOk, IfErr};
 ghost use Rattle.dds_base.specs.Bounds.{max_sn};

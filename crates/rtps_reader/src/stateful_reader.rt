@@ -1,6 +1,6 @@
 //! A reader and the writers that it knows.
 //!
-//! RTPS 2.5, 8.4.10 (StatefulReader), 8.4.11, 8.4.12.
+//! RTPS 2.5, 8.4.10 (StatefulReader), 8.4.12.
 
 ghost use Rattle.std.specs.Prelude.{◌≡◌, ℕ, ◌+◌, ◌-◌, ◌^◌, ◌<◌, ◌≤◌, List, length, true, false, OnOk, OnErr, IsOk, IfOk, IfErr};
 ghost use Rattle.dds_base.specs.Bounds.{max_sn};
@@ -300,7 +300,7 @@ impl StatefulReader {
     /// `Memory` where a growth was refused, and never after `reserve`, or `reserve_for` of this writer; what is known
     /// and what happened is as it was.
     ///
-    /// DDS 1.4, 2.2.3 (RELIABILITY: BEST_EFFORT); RTPS 2.5, 8.4.11 (best-effort StatefulReader).
+    /// DDS 1.4, 2.2.3 (RELIABILITY: BEST_EFFORT); RTPS 2.5, 8.4.12 (best-effort StatefulReader).
     pub fn on_best_effort_data<S: Sink>(
         &mut self,
         sink: &mut S,
@@ -484,7 +484,7 @@ impl StatefulReader {
     /// `Memory` where a growth was refused, and never after `reserve`, or `reserve_for` of this writer; what is known
     /// and what happened is as it was.
     ///
-    /// RTPS 2.5, 8.4.11 (best-effort StatefulReader), 8.3.8 (Heartbeat: count); DDS 1.4, 2.2.3 (LIVELINESS).
+    /// RTPS 2.5, 8.4.12 (best-effort StatefulReader), 8.3.8 (Heartbeat: count); DDS 1.4, 2.2.3 (LIVELINESS).
     pub fn on_best_effort_heartbeat<S: Sink>(
         &mut self,
         sink: &mut S,

@@ -1,5 +1,6 @@
--- Reading fields from left to right: what the code does, on lists. Nothing here has to be believed, since
--- `read_message` says what it reads by the texts of `Fields`.
+-- Reading fields from left to right: what the code does, on lists. `read_message` says what it reads by the texts of
+-- `Fields`. Three of them are believed: `entity_id_at` by `head_at` of rtps_discovery, and by `payload_at` and `named_at`
+-- of rtps_adapter; `sn_at` by `named_at`; `count_at` by `noted_at`.
 --
 -- RTPS 2.5, 9.3 and 9.4.2.
 use Rattle.std.specs.Prelude.{ℕ, ◌+◌, ◌*◌, List, Option, Some, None, nat_lt, if◌then◌else◌, ℤ}

@@ -1,5 +1,6 @@
--- Reading parameters from left to right: what the code does, on lists. Nothing here has to be believed, since
--- `read_message` says what it reads by `Parameters`.
+-- Reading parameters from left to right: what the code does, on lists. `read_message` says what it reads by
+-- `Parameters`. All four are believed: `parameter_at` by `value_from` of rtps_announcements and `after_first` of
+-- rtps_adapter; `parameters_at`, and by it the others, by `skip_parameters` and by `content_at` of rtps_discovery.
 --
 -- RTPS 2.5, 9.4.2 (ParameterList), 9.6 (strength, key hash and status info).
 use Rattle.std.specs.Prelude.{ℕ, zero, suc, ◌%◌, ◌==◌, List, length, Option, Some, None, if◌then◌else◌, slice_index}

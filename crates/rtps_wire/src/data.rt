@@ -124,8 +124,7 @@ fn ended(disposed: bool, unregistered: bool, key: Key) -> ChangeBody<'static>
     }
 }
 
-/// What is said, by the table of `docs/WIRE.md`, "What a DATA means". `docs/DECISIONS.md`, "Types", says why its flags
-/// are booleans.
+/// What is said, by the table of `docs/WIRE.md`, "What a DATA means".
 #[tactic(auto, unfolding(crate::specs::DataAt::body_by, crate::specs::DataAt::body_at))]
 fn body_of(flags: u8, found: Parameters, payload: &[u8]) -> Option<ChangeBody<'_>>
     ensures { result ≡ body_at flags found payload.now }
