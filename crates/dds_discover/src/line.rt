@@ -170,6 +170,6 @@ pub fn cause_of(line: &[u8]) -> &'static str {
         "deliver" => "its form is `deliver UNITS ADDRESS HEX`, where the address is as 127.0.0.1",
         "open" | "close" | "misfits" | "who" => "it stands alone",
         _ =>
-            "a line begins with participant, address, limits, open, writer, reader, remove, tick, deliver, misfits or close",
+            "a line begins with participant, address, limits, open, writer, reader, remove, tick, deliver, misfits, who or close",
     }
 }

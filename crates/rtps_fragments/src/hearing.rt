@@ -164,9 +164,9 @@ impl Fragments {
     }
 
     /// Hears a datagram: its DATA_FRAGs of known writers are taken in, and the messages of the payloads that they made
-    /// whole are appended, in their order. Each is a message of the sender with one DATA, behind the INFO_DST and the
-    /// INFO_TS that are in force at the DATA_FRAG that was missing. The datagram is to be handed on too, as it stands:
-    /// a peer passes over DATA_FRAGs.
+    /// whole are appended, in their order. Each is a message of the sender with one DATA, behind the INFO_DST that is in
+    /// force at the DATA_FRAG that was missing, and the INFO_TS that was at the first of the payload. The datagram is to
+    /// be handed on too, as it stands: a peer passes over DATA_FRAGs.
     ///
     /// Passed over, with nothing changed, are DATA_FRAGs of other writers, those whose fragment size or whole length is
     /// not that of their number, fragments that are counted from 0 or beyond the payload, a payload that no DATA in one
