@@ -27,7 +27,7 @@ typedef struct cw_recording {
 
 #define CW_RECORDING_NONE {CW_PEER_NONE, NULL, false, {{false}}, {0}}
 
-#define CW_RECORDED_VALUE ((size_t)1025)      /* octets of a value that are written: one more than any that is taken */
+#define CW_RECORDED_VALUE ((size_t)65001)     /* octets of a value that are written: one more than any that is taken */
 #define CW_RECORDED_DATAGRAM ((size_t)65535)  /* a longer one is no message, and written as an empty one, which is none either */
 
 /* Octets as digits, `-` for none, and what ends them. */

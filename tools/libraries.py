@@ -86,7 +86,7 @@ def build(to: pathlib.Path) -> None:
     are_stamped = all((built(it).parent / "stamp").exists() for it in below)
     is_over_those = are_there and not are_stamped
     words = build_words(all_crates, below, to) if is_over_those else ["rt", "lib"]
-    how_long = "some five minutes" if are_there else "about an hour, or less where parts are built,"
+    how_long = "some five minutes" if are_there else "90 minutes, or less where parts are built,"
     print(f"the library for C is proved and built: {how_long} of one processor", file=sys.stderr, flush=True)
     ran = subprocess.run(words, cwd=CRATE, capture_output=True, text=True)
     if ran.returncode:

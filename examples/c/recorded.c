@@ -1,6 +1,7 @@
 /* Two peers that are recorded: of three changes the second is lost on its way, and repaired; the third finds room once these
- * are taken. Then both ends part, and are matched again. What is printed are the recordings of both, one after the other:
- * dds_pipe answers each the same, and tools/draw draws both as one run. */
+ * are taken, and the value of a fourth is longer than 1,024 octets. Then both ends part, and are matched again. What is
+ * printed are the recordings of both, one after the other: dds_pipe answers each the same, and tools/draw draws both as one
+ * run. */
 #include "cinchwalnut_record.h"
 #include <string.h>
 
@@ -8,9 +9,9 @@
 
 static const cw_peer_config peers[] = {{{1, 1, 1, 1, 1, 1, 1, 1, 1, 1, 1, 1}}, {{2, 2, 2, 2, 2, 2, 2, 2, 2, 2, 2, 2}}};
 static const cw_writer_config writers[] = {
-    {.peer = 1, .entity = {0, 0, 1, 2}, .autodispose = true, .max_samples = -1}};
+    {.peer = 1, .entity = {0, 0, 1, 2}, .autodispose = true, .max_samples = -1, .max_value = 1100}};
 static const cw_reader_config readers[] = {
-    {.peer = 2, .entity = {0, 0, 1, 7}, .max_samples = 2, .max_instances = -1}};
+    {.peer = 2, .entity = {0, 0, 1, 7}, .max_samples = 2, .max_instances = -1, .max_value = 1100}};
 static cw_recording writer = CW_RECORDING_NONE, reader = CW_RECORDING_NONE;
 
 static void open_recorded(cw_recording *run, uint8_t number) {
@@ -39,7 +40,7 @@ static void print_recorded(cw_recording *run) {
 }
 
 int main(void) {
-    const uint8_t key[16] = {7};
+    const uint8_t key[16] = {7}, longest[1100] = {1};
     const char *values[] = {"one", "two", "three"};
     const char *line = "call take r2";
     open_recorded(&writer, 1);
@@ -59,6 +60,9 @@ int main(void) {
     CHECK(cw_recorded_resume(&reader, 1) == CW_OK);
     CHECK(cw_recorded_take(&reader, 1, -1, CW_ANY, CW_ANY, CW_ANY) == CW_OK);
     CHECK(cw_recorded_get_sample_lost_status(&reader, 1) == CW_OK);
+    CHECK(cw_recorded_write(&writer, 1, key, longest, sizeof longest) == CW_OK);
+    carry(&writer, &reader);
+    CHECK(cw_recorded_take(&reader, 1, -1, CW_ANY, CW_ANY, CW_ANY) == CW_OK);
     CHECK(cw_recorded_unmatch_reader(&writer, 1, 2, 1) == CW_OK && cw_recorded_unmatch_writer(&reader, 1, 1, 1) == CW_OK);
     CHECK(cw_recorded_match_reader(&writer, 1, 2, 1) == CW_OK && cw_recorded_match_writer(&reader, 1, 1, 1) == CW_OK);
     CHECK(cw_recorded_match_writer(&reader, 1, 1, 1) == CW_PRECONDITION_NOT_MET);

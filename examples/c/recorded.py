@@ -1,12 +1,14 @@
 """Two peers that are recorded: of three changes the second is lost on its way, and repaired; the third finds room once these
-are taken. Then both ends part, and are matched again. What is printed are the recordings of both, one after the other:
-dds_pipe answers each the same, and tools/draw draws both as one run."""
+are taken, and the value of a fourth is longer than 1,024 octets. Then both ends part, and are matched again. What is
+printed are the recordings of both, one after the other: dds_pipe answers each the same, and tools/draw draws both as one
+run."""
 import contextlib
 import io
 
 from cinchwalnut import BadParameter, EntityKind, PreconditionNotMet, RecordedPeer, Status, reader, writer
 
-CONFIG = [bytes([1] * 12), bytes([2] * 12)], [writer(peer=1, key=1)], [reader(peer=2, key=1, max_samples=2)]
+PREFIXES, LONGEST = [bytes([1] * 12), bytes([2] * 12)], bytes([1] * 1100)
+CONFIG = PREFIXES, [writer(peer=1, key=1, max_value=1100)], [reader(peer=2, key=1, max_samples=2, max_value=1100)]
 KEY, FIRST, SECOND = bytes([7] * 16), io.StringIO(), io.StringIO()
 
 with RecordedPeer(*CONFIG, 1, FIRST) as first, RecordedPeer(*CONFIG, 2, SECOND) as second:
@@ -22,6 +24,9 @@ with RecordedPeer(*CONFIG, 1, FIRST) as first, RecordedPeer(*CONFIG, 2, SECOND) 
                 second.deliver(repair)
     second.take(1)
     second.resume(1)
+    second.take(1)
+    for _, packet in first.write(1, KEY, LONGEST):
+        second.deliver(packet)
     second.take(1)
     first.unmatch_reader(1, (2, 1)), second.unmatch_writer(1, (1, 1))
     first.match_reader(1, (2, 1)), second.match_writer(1, (1, 1))

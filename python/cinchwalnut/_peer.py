@@ -16,6 +16,7 @@ from ._faults import arrays, fault_in, line_fault, text_fault
 _LIBRARY = _library.LIBRARY
 SECOND = 1 << 32
 _BUFFER = 1 << 16
+_RECORDED_VALUE = 65_001  # octets of a value that stand in a line: one more than any that is taken
 _NO_DATA, _OUT_OF_RESOURCES = int(Code.NO_DATA), int(Code.OUT_OF_RESOURCES)
 _Peer = TypeVar("_Peer", bound="Peer")
 _Item = TypeVar("_Item")
@@ -226,7 +227,7 @@ class Peer:
     def write(self, number: int, key: Octets, value: Octets) -> List[Packet]:
         u8(number, "number")
         of, said = key_of(key), octets(value, "a value")
-        return self._sent(lambda: f"call write w{number} {of.hex()} {said[:1025].hex() or '-'}", _LIBRARY.cw_write, number, of, said, len(said))
+        return self._sent(lambda: f"call write w{number} {of.hex()} {said[:_RECORDED_VALUE].hex() or '-'}", _LIBRARY.cw_write, number, of, said, len(said))
 
     def dispose(self, number: int, key: Octets) -> List[Packet]:
         return self._keyed("dispose", _LIBRARY.cw_dispose, number, key)
