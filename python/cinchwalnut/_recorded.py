@@ -112,7 +112,7 @@ def _options(end: _End) -> str:
     words += [f"max={end.max_samples}", f"topic={end.topic}"]
     words += [f"strength={end.strength}"] if isinstance(end, WriterConfig) else [f"instances={end.max_instances}"]
     words += [f"lease={end.lease}"] if end.has_lease else []
-    words += [f"values={end.max_value}"] if end.max_value != 1024 else []
+    words += [f"values={end.max_value}"] if end.max_value not in (0, 1024) else []
     if isinstance(end, WriterConfig):
         words += ["noauto"] * (not end.autodispose)
     else:
