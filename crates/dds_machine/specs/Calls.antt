@@ -26,15 +26,22 @@ use Rattle.dds_base.specs.Selection.{picked_by}
 use Rattle.dds_base.specs.Statuses.{lost_count, sample_lost_status}
 use Rattle.dds_base.specs.Written.{Written, Registered, Changed, Asserted, LookedAt, StrengthSet, is_key_registered, liveliness_lost_status}
 use Rattle.dds_base.specs.Number.{at_number}
+use Rattle.dds_base.specs.declared.policies.LivelinessKind.TheVariants.{ManualByTopic}
+use Rattle.dds_base.specs.declared.policies.LivelinessKind.{LivelinessKind}
+use Rattle.dds_base.specs.declared.qos.MatchedWriter.{MatchedWriter}
+use Rattle.dds_base.specs.Matched.{is_reliable}
+use Rattle.dds_base.specs.Policies.{units_of}
 use Rattle.dds_machine.specs.declared.call.Call.{Call}
-use Rattle.dds_machine.specs.declared.call.Call.TheVariants.{Register, Write, Dispose, Unregister, AssertLiveliness, SetStrength, Read, Take, GetKeyValue, LookupInstance, GetSampleLost, GetLivelinessChanged, GetLivelinessLost, ReadByCondition, TakeByCondition, CreateReadCondition, CreateQueryCondition, CreateGuardCondition, SetTriggerValue, DeleteCondition, GetTriggerValue, CreateWaitSet, DeleteWaitSet, AttachCondition, DetachCondition, GetConditions, WaitBegin, WaitLook, WaitEnd, SetEnabledStatuses, GetStatusChanges, MatchReader, UnmatchReader, MatchWriter, UnmatchWriter, GetPublicationMatched, GetSubscriptionMatched}
+use Rattle.dds_machine.specs.declared.far.FarReader.{FarReader}
+use Rattle.dds_machine.specs.declared.far.FarWriter.{FarWriter}
+use Rattle.dds_machine.specs.declared.call.Call.TheVariants.{Register, Write, Dispose, Unregister, AssertLiveliness, SetStrength, Read, Take, GetKeyValue, LookupInstance, GetSampleLost, GetLivelinessChanged, GetLivelinessLost, ReadByCondition, TakeByCondition, CreateReadCondition, CreateQueryCondition, CreateGuardCondition, SetTriggerValue, DeleteCondition, GetTriggerValue, CreateWaitSet, DeleteWaitSet, AttachCondition, DetachCondition, GetConditions, WaitBegin, WaitLook, WaitEnd, SetEnabledStatuses, GetStatusChanges, MatchReader, UnmatchReader, MatchWriter, UnmatchWriter, GetPublicationMatched, GetSubscriptionMatched, MeetReader, MeetWriter}
 use Rattle.dds_machine.specs.declared.reply.Reply.{Reply}
 use Rattle.dds_machine.specs.declared.reply.Reply.TheVariants.{Done, Samples, KeyValue, InstanceHandle, SampleLost, LivelinessChanged, LivelinessLost, Matched, Created, TriggerValue, Conditions, Active, Waiting, StatusChanges, Refused}
 use Rattle.dds_conditions.specs.declared.condition.Cond.{Cond}
 use Rattle.dds_conditions.specs.declared.condition.Condition.TheVariants.{Guard, Samples as OfSamples}
 use Rattle.dds_conditions.specs.Attached.{active_of, is_attached}
 use Rattle.dds_conditions.specs.Watched.{Watched, attach_refusal, conditions_of, detaching_refusal, free_refusal, guard_refusal, is_timed_out, knows, knows_entity, number_refusal, unless_there, use_refusal, with_attached, with_condition, with_condition_at, with_deadline, with_detached, with_enabled, with_wait_set, with_wait_set_at, without_condition}
-use Rattle.dds_machine.specs.Matching.{Telling, MatchReader as HasReader, UnmatchReader as HasReaderNoMore, MatchWriter as HasWriter, UnmatchWriter as HasWriterNoMore, TellingMayWantMemory, after_telling, knows_reliable, publication_matched, reader_looked_at, seen_after_telling, subscription_matched, telling_refusal, writer_looked_at}
+use Rattle.dds_machine.specs.Matching.{Telling, MatchReader as HasReader, UnmatchReader as HasReaderNoMore, MatchWriter as HasWriter, UnmatchWriter as HasWriterNoMore, MeetReader as HasMetReader, MeetWriter as HasMetWriter, TellingMayWantMemory, after_telling, knows_reliable, with_match, publication_matched, reader_looked_at, seen_after_telling, subscription_matched, telling_refusal, writer_looked_at}
 use Rattle.dds_machine.specs.Watching.{Test, Tests, condition_refusal, condition_selection, condition_test, query_condition_refusal, read_condition_refusal, status_changes, trigger_value}
 use Rattle.dds_machine.specs.Part.{Part, Rtps, Dds, Seen, Reader, Writer, own_writer, own_proxies, own_reader, publication_among, with_reader, with_writer}
 use Rattle.dds_machine.specs.Refusals.{change_made, unregister_kind, writer_refusal, write_refusal, dispose_refusal, unregister_refusal, assert_refusal, strength_refusal, access_refusal, key_of, key_refusal, reader_refusal}
@@ -109,6 +116,31 @@ effect old (looks_at_matches writer) = with_writer old writer writer_looked_at
 abbrev pub reader_told : Part → ℕ → Endpoint → Telling
 reader_told part writer reader = HasReader writer reader (knows_reliable (own_writer part writer) reader)
 
+-- what a writer is told of a far reader: its name, and whether it asks for all changes (DDS 1.4, 2.2.3, RELIABILITY)
+abbrev pub far_reader_told : ℕ → FarReader → Telling
+far_reader_told writer far = HasMetReader writer
+    (record { end = far.endpoint; guid = far.guid; reliable = is_reliable far.requested.reliability })
+
+-- how long an assertion of a writer lasts at its readers: for ever where it does not assert itself by topic (DDS 1.4,
+-- 2.2.3, LIVELINESS)
+abbrev pub lease_by : LivelinessKind → Option ℕ → Option ℕ
+lease_by ManualByTopic lease = lease
+lease_by kind lease = None
+
+-- what a reader keeps of a far writer: its GUID, its strength and its lease
+abbrev pub as_matched : FarWriter → MatchedWriter
+as_matched far =
+    record { guid = far.guid; strength = far.offered.strength; lease = lease_by far.offered.liveliness.kind (units_of far.offered.liveliness.lease) }
+
+-- what a reader is told of it
+abbrev pub far_writer_told : ℕ → FarWriter → Telling
+far_writer_told reader far = HasMetWriter reader far.endpoint (as_matched far)
+
+-- the publication handle of a writer once the peer's reader was told of it: one that it does not know has the next one
+abbrev pub handle_once_met : Part → ℕ → Endpoint → ℕ
+handle_once_met part reader writer =
+    option_map_or (λ handle. handle) (publication_among (with_match (own_proxies part reader) writer) writer) 0
+
 -- what a call that is answered so does to the peer's writers and places
 abbrev pub effect_of : Part → Call → Reply → Effect
 effect_of part (Register writer key) Done = writes writer (Registered key)
@@ -124,6 +156,8 @@ effect_of part (UnmatchReader writer reader) Done = tells (HasReaderNoMore write
 effect_of part (MatchWriter reader writer) (InstanceHandle handle) = tells (HasWriter reader writer)
 effect_of part (UnmatchWriter reader writer) Done = tells (HasWriterNoMore reader writer)
 effect_of part (GetPublicationMatched writer) (Matched status) = looks_at_matches writer
+effect_of part (MeetReader writer far greeted) Done = tells (far_reader_told writer far)
+effect_of part (MeetWriter reader far) (InstanceHandle handle) = tells (far_writer_told reader far)
 effect_of part call reply = nothing
 
 -- A call that the first cause refuses, if there is one, or want of memory: else it is done. What was `old` is then
@@ -313,6 +347,10 @@ Answers tests old (GetSubscriptionMatched reader) reply dds =
     IsAnswered (reader_refusal old reader)
     (Matched (subscription_matched (own_proxies old reader) (own_reader old reader))) (after_matches_look old reader) old
     reply dds
+Answers tests old (MeetReader writer far greeted) reply dds =
+    AnswersTelling (far_reader_told writer far) Done old reply dds
+Answers tests old (MeetWriter reader far) reply dds =
+    AnswersTelling (far_writer_told reader far) (InstanceHandle (handle_once_met old reader far.endpoint)) old reply dds
 
 -- one call at a peer
 pub record CallStep (tests : Tests) (old : Part) (call : Call) (reply : Reply) (new : Part) : Type 0 where

@@ -5,7 +5,7 @@
 -- RTPS 2.5, 8.4.7.4 (StatefulWriter, matched_reader_add, matched_reader_remove), 8.4.10.3 (StatefulReader,
 -- matched_writer_add, matched_writer_remove); DDS 1.4, 2.2.3 (DURABILITY: VOLATILE), 2.2.4.1
 -- (PUBLICATION_MATCHED, SUBSCRIPTION_MATCHED), 2.2.1.1 (return codes).
-use Rattle.std.specs.Prelude.{◌≡◌, ℕ, ◌+◌, ◌-◌, ◌^◌, ◌<◌, ◌==◌, ◌&&◌, ◌||◌, nat_le, nat_lt, min, pos, ◌-ℤ◌, Bool, false, not, if◌then◌else◌, List, [], ◌∷◌, ◌++◌, length, filter, count_by, Option, Some, None, is_some}
+use Rattle.std.specs.Prelude.{◌≡◌, ℕ, ◌+◌, ◌-◌, ◌^◌, ◌<◌, ◌==◌, ◌&&◌, ◌||◌, nat_le, nat_lt, min, pos, ◌-ℤ◌, Bool, true, false, not, if◌then◌else◌, List, [], ◌∷◌, ◌++◌, length, filter, count_by, Option, Some, None, is_some}
 use Rattle.std.specs.List.{list_any}
 use Rattle.std.specs.Option.{option_map_or, option_or}
 use Rattle.dds_base.specs.declared.code.Code.{Code}
@@ -176,13 +176,14 @@ reader_looked_at rows r = record r { matches = seen_matches r.matches (attached_
 -- ---- tellings
 
 -- What a peer is told: its writer of a reader, which is reliable or not, or that a reader has left; its reader of a
--- writer, or that a writer has left. It meets one that it may not know, by the name and the GUID of it.
+-- writer, or that a writer has left. It meets one that it may not know: a reader by its name, which says whether it is
+-- reliable, and a writer by the name and the GUID of it.
 pub data Telling : Type 0 where
   MatchReader : (writer : ℕ) (reader : Endpoint) (reliable : Bool) → Telling
   UnmatchReader : (writer : ℕ) (reader : Endpoint) → Telling
   MatchWriter : (reader : ℕ) (writer : Endpoint) → Telling
   UnmatchWriter : (reader : ℕ) (writer : Endpoint) → Telling
-  MeetReader : (writer : ℕ) (reader : Name) (reliable : Bool) → Telling
+  MeetReader : (writer : ℕ) (reader : Name) → Telling
   MeetWriter : (reader : ℕ) (writer : Endpoint) (as_writer : MatchedWriter) → Telling
 
 -- the end knows none of that name; or the two are matched already, or are not, as the telling has it
@@ -192,7 +193,7 @@ matching_refusal known as_told =
 
 -- the name of the writer
 abbrev pub name_of : Endpoint → MatchedWriter → Name
-name_of writer as_writer = record { end = writer; guid = as_writer.guid }
+name_of writer as_writer = record { end = writer; guid = as_writer.guid; reliable = true }
 
 -- the peer has the writer, and may call the reader so
 abbrev pub may_meet_reader : Rtps → ℕ → Name → Bool
@@ -232,7 +233,7 @@ telling_refusal part (MatchWriter reader writer) =
 telling_refusal part (UnmatchWriter reader writer) =
     matching_refusal (is_known (own_proxies part reader) writer)
     (not (is_attached (how_of (own_proxies part reader) writer)))
-telling_refusal part (MeetReader writer reader reliable) =
+telling_refusal part (MeetReader writer reader) =
     option_or (matching_refusal (may_meet_reader part.rtps writer reader) (is_matched (own_writer part writer) reader.end))
     (if knows_too_many (own_writer part writer) reader.end then Some OutOfResources else None)
 telling_refusal part (MeetWriter reader writer as_writer) =
@@ -248,8 +249,8 @@ after_telling old (MatchWriter reader writer) =
     record old { readers = with_numbered old.readers reader (with_match (numbered old.readers reader []) writer) }
 after_telling old (UnmatchWriter reader writer) =
     record old { readers = with_numbered old.readers reader (with_how (numbered old.readers reader []) writer Away) }
-after_telling old (MeetReader writer reader reliable) =
-    record (with_writer old writer (λ w. met w reader.end reliable))
+after_telling old (MeetReader writer reader) =
+    record (with_writer old writer (λ w. met w reader.end reader.reliable))
     { names = record old.names { readers = with_name old.names.readers reader } }
 after_telling old (MeetWriter reader writer as_writer) = record old {
   readers = with_numbered old.readers reader (with_match (numbered old.readers reader []) writer);
@@ -277,7 +278,7 @@ seen_after_telling old other = old.dds
 abbrev pub TellingMayWantMemory : Part → Telling → Type 0
 TellingMayWantMemory part (MatchReader writer reader reliable) = Unit {0}
 TellingMayWantMemory part (UnmatchWriter reader writer) = 2 ^ 64 - 1 < length (parted_at part reader writer)
-TellingMayWantMemory part (MeetReader writer reader reliable) = Unit {0}
+TellingMayWantMemory part (MeetReader writer reader) = Unit {0}
 TellingMayWantMemory part (MeetWriter reader writer as_writer) = Unit {0}
 TellingMayWantMemory part other = ⊥
 

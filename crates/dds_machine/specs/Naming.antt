@@ -1,7 +1,8 @@
 -- The names by which a peer speaks of ends, its own and others'. One participant's number has one prefix, and one end has
--- one GUID: so no name is told with another GUID than before, and no GUID under another name.
+-- one GUID: so no name is told with another GUID than before, and no GUID under another name. A reader that is known as
+-- reliable is not told as a best-effort one, nor the other way round.
 --
--- RTPS 2.5, 8.2 (GUID_t), 9.3 (GUIDPREFIX_UNKNOWN, entity kinds).
+-- RTPS 2.5, 8.2 (GUID_t), 9.3 (GUIDPREFIX_UNKNOWN, entity kinds); DDS 1.4, 2.2.3 (RELIABILITY, not changeable).
 use Rattle.std.specs.Prelude.{ℕ, ◌==◌, ◌&&◌, ◌||◌, Bool, not, if◌then◌else◌, List, [], ◌∷◌, ◌++◌}
 use Rattle.std.specs.List.{list_all, list_any}
 use Rattle.dds_base.specs.declared.guid.Guid.{Guid}
@@ -20,9 +21,12 @@ same_guid a b = same_prefix a.prefix b.prefix && same_entity a.entity b.entity
 abbrev pub agree_on_peers : Name → Name → Bool
 agree_on_peers a b = both_or_neither (a.end.peer == b.end.peer) (same_prefix a.guid.prefix b.guid.prefix)
 
--- two names, both of writers or both of readers, are of one end exactly if they have one GUID
+-- two names, both of writers or both of readers, are of one end exactly if they have one GUID; and of one end both say
+-- that it is reliable, or neither does
 abbrev pub agree_on_ends : Name → Name → Bool
-agree_on_ends a b = both_or_neither (same_endpoint a.end b.end) (same_guid a.guid b.guid)
+agree_on_ends a b =
+    if same_endpoint a.end b.end then same_guid a.guid b.guid && both_or_neither a.reliable b.reliable
+    else not (same_guid a.guid b.guid)
 
 -- no name is such: the number of a participant or of an end is 0, the prefix is that of none, or the entity is of
 -- another kind

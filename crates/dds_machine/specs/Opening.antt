@@ -3,7 +3,7 @@
 --
 -- DDS 1.4, 2.2.2.3, 2.2.3 (policies of matched entities); RTPS 2.5, 8.4.7 (matched_readers), 8.4.10
 -- (matched_writers).
-use Rattle.std.specs.Prelude.{ℕ, ◌+◌, List, [], ◌∷◌, ◌++◌, length, map, None}
+use Rattle.std.specs.Prelude.{ℕ, ◌+◌, Bool, true, List, [], ◌∷◌, ◌++◌, length, map, None}
 use Rattle.dds_base.specs.declared.config.Config.{Config}
 use Rattle.dds_base.specs.declared.config.PeerConfig.{PeerConfig}
 use Rattle.dds_base.specs.declared.config.WriterConfig.{WriterConfig}
@@ -43,26 +43,27 @@ matched_writers topic peer ps =
     of_matched_writers (λ i p n w. record
     { writer = record { peer = i; number = n }; place = 1; heard = None; how = Begun }) topic peer ps
 
--- the names of ends of a peer, by their entities; the first of them has this number
-abbrev pub names_in : {E : Type 0} → (E → EntityId) → GuidPrefix → ℕ → ℕ → List E → List Name
-names_in entity_of prefix peer number [] = []
-names_in entity_of prefix peer number (e ∷ es) =
+-- the names of ends of a peer, by their entities and by which of them are reliable; the first of them has this number
+abbrev pub names_in : {E : Type 0} → (E → EntityId) → (E → Bool) → GuidPrefix → ℕ → ℕ → List E → List Name
+names_in entity_of reliable_of prefix peer number [] = []
+names_in entity_of reliable_of prefix peer number (e ∷ es) =
     record {
       end = record { peer = peer; number = number };
       guid = record { prefix = prefix; entity = entity_of e };
-    } ∷ names_in entity_of prefix peer (number + 1) es
+      reliable = reliable_of e;
+    } ∷ names_in entity_of reliable_of prefix peer (number + 1) es
 
 -- the names of all writers of these peers, the first of which has this number
 abbrev pub writer_names : ℕ → List PeerConfig → List Name
 writer_names peer [] = []
 writer_names peer (p ∷ ps) =
-    names_in (λ (w : WriterConfig). w.entity) p.prefix peer 1 p.writers ++ writer_names (peer + 1) ps
+    names_in (λ (w : WriterConfig). w.entity) (λ w. true) p.prefix peer 1 p.writers ++ writer_names (peer + 1) ps
 
 -- the names of all their readers
 abbrev pub reader_names : ℕ → List PeerConfig → List Name
 reader_names peer [] = []
 reader_names peer (p ∷ ps) =
-    names_in (λ (r : ReaderConfig). r.entity) p.prefix peer 1 p.readers ++ reader_names (peer + 1) ps
+    names_in (λ (r : ReaderConfig). r.entity) is_reliable_reader p.prefix peer 1 p.readers ++ reader_names (peer + 1) ps
 
 -- what a reader's QoS says of the matched writers of the topic
 abbrev pub writer_qos : ℕ → List PeerConfig → List MatchedWriter

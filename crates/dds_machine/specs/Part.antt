@@ -84,10 +84,12 @@ pub record Writer : Type 0 where
   pub readers : List ReaderProxy
   pub matches : Matches
 
--- the name by which a peer speaks of a writer or of a reader, and the GUID of that one (RTPS 2.5, 8.2: GUID_t)
+-- the name by which a peer speaks of a writer or of a reader, the GUID of that one (RTPS 2.5, 8.2: GUID_t), and whether
+-- it is a reliable reader (DDS 1.4, 2.2.3, RELIABILITY: it can't change); of a writer's name this is always true
 pub record Name : Type 0 where
   pub end : Endpoint
   pub guid : Guid
+  pub reliable : Bool
 
 -- the names that a peer knows, of writers and of readers
 pub record Names : Type 0 where

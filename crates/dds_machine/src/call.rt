@@ -4,6 +4,7 @@
 
 ghost use Rattle.std.specs.Prelude.{◌≡◌};
 
+use crate::far::{FarReader, FarWriter};
 use dds_base::{Endpoint, Entity, Handle, Key, Masks, Moment, Octets, Scope, Selection};
 use dds_conditions::Cond;
 use dds_notices::StatusMask;
@@ -241,6 +242,33 @@ pub enum Call {
     GetSubscriptionMatched {
         reader: u8,
     },
+    /// A writer is told of a reader that it may not know, under a name of the caller's choice: the two are matched from
+    /// now on, as by `MatchReader`, and the writer knows it from then on as one of its topic. `BadParameter` where the
+    /// peer has no such writer, where the number of the participant or of the reader is 0, the prefix is all zeros or
+    /// the entity is no reader, and where the name and the GUID don't go with those that are known: a name has one GUID,
+    /// a GUID one name, and the number of a participant one prefix. So it is where the peer knows the reader as a
+    /// reliable one and is told that it is best-effort, or the other way round: RELIABILITY can't change.
+    /// `PreconditionNotMet` where the two are matched, `OutOfResources` where the writer knows 16 other readers of that
+    /// participant, or 2^31 - 1 others. It sends nothing.
+    ///
+    /// RTPS 2.5, 8.4.7.4 (matched_reader_add); DDS 1.4, 2.2.3 (RELIABILITY).
+    MeetReader {
+        writer: u8,
+        far: FarReader,
+        /// As of `MatchReader`.
+        greeted: bool,
+    },
+    /// A reader is told of a writer that it may not know, under a name of the caller's choice: the two are matched from
+    /// now on, as by `MatchWriter`. One that it does not know has the next publication handle, which is answered.
+    /// `BadParameter` where the peer has no such reader, where the numbers, the GUID and the name are as they may not be
+    /// for `MeetReader`, the entity is no writer, or the writer's lease is 0; `PreconditionNotMet` where the two are
+    /// matched, `OutOfResources` where the reader knows 2^31 - 1 other writers. It sends nothing.
+    ///
+    /// RTPS 2.5, 8.4.10.3 (matched_writer_add).
+    MeetWriter {
+        reader: u8,
+        far: FarWriter,
+    },
 }
 
 // Arm by arm, so that the copy is equal to the call.
@@ -397,6 +425,19 @@ impl Clone for Call {
             Call::GetSubscriptionMatched { reader } => {
                 Call::GetSubscriptionMatched { reader: *reader }
             }
+            Call::MeetReader {
+                writer,
+                far,
+                greeted,
+            } => Call::MeetReader {
+                writer: *writer,
+                far: *far,
+                greeted: *greeted,
+            },
+            Call::MeetWriter { reader, far } => Call::MeetWriter {
+                reader: *reader,
+                far: *far,
+            },
         })
     }
 }

@@ -9,6 +9,7 @@
 
 mod call;
 mod event;
+mod far;
 mod reply;
 
 pub use call::Call;
@@ -17,4 +18,5 @@ pub use dds_base::{
     SampleLostStatus,
 };
 pub use event::WorldEvent;
+pub use far::{FarReader, FarWriter};
 pub use reply::{Move, Reply, Report};

@@ -1,15 +1,15 @@
 -- What a known name stands for, and what it goes with.
 --
 -- RTPS 2.5, 8.2 (GUID_t).
-use Rattle.std.specs.Prelude.{ℕ, ◌&&◌, Bool, not, if◌then◌else◌, List, [], ◌∷◌, ◌++◌}
+use Rattle.std.specs.Prelude.{ℕ, ◌-◌, ◌&&◌, Bool, not, if◌then◌else◌, List, [], ◌∷◌, ◌++◌, length, take}
 use Rattle.std.specs.List.{list_all, list_any}
 use Rattle.dds_machine.specs.Naming.{agree_on_ends, agree_on_peers, is_no_name}
-use Rattle.dds_machine.specs.Part.{Name, same_endpoint}
+use Rattle.dds_machine.specs.Part.{Name, Names, same_endpoint}
 use Rattle.dds_names.specs.declared.named_end.NamedEnd.{NamedEnd}
 
--- the name of an end, and its GUID
+-- the name of an end, its GUID, and whether it is reliable
 abbrev pub name_of : NamedEnd → Name
-name_of named = record { end = named.end; guid = named.guid }
+name_of named = record { end = named.end; guid = named.guid; reliable = named.is_reliable }
 
 -- a name and each of these agree, on participants and on ends
 abbrev pub agrees_with_all : List NamedEnd → NamedEnd → Bool
@@ -32,3 +32,15 @@ has_end known name = list_any (λ (k : NamedEnd). same_endpoint k.end name.end) 
 -- these, with this one
 abbrev pub with_end : List NamedEnd → NamedEnd → List NamedEnd
 with_end known name = if has_end known name then known else known ++ name ∷ []
+
+-- these, without the last one, if it is new
+abbrev pub without_new : {X : Type 0} → Bool → List X → List X
+without_new is_new names = if is_new then take (length names - 1) names else names
+
+-- the names that are known, without that of the last writer, if it is new
+abbrev pub without_new_writer : Bool → Names → Names
+without_new_writer is_new names = record names { writers = without_new is_new names.writers }
+
+-- the names that are known, without that of the last reader, if it is new
+abbrev pub without_new_reader : Bool → Names → Names
+without_new_reader is_new names = record names { readers = without_new is_new names.readers }

@@ -8,7 +8,7 @@ ghost use Rattle.dds_base.specs.declared.code.Code.TheVariants.{Memory};
 ghost use Rattle.dds_machine.specs.Naming.{is_name_among, with_name};
 ghost use Rattle.dds_machine.specs.Opening.{reader_names, writer_names};
 ghost use Rattle.dds_machine.specs.Part.{no_names};
-ghost use Rattle.dds_names.specs.Known.{agrees_on_all_peers, agrees_with_all, goes_with, has_end, name_of, with_end};
+ghost use Rattle.dds_names.specs.Known.{agrees_on_all_peers, agrees_with_all, goes_with, has_end, name_of, with_end, without_new, without_new_reader, without_new_writer};
 
 use crate::named_end::NamedEnd;
 use crate::opening;
@@ -76,18 +76,28 @@ fn has_end(known: &[NamedEnd], name: &NamedEnd) -> bool
     known.iter().any(|k| k.is_of_end(name))
 }
 
-/// Adds a name to those of its kind, if it is not among them.
-#[tactic(auto, using(crate::proofs::NameLaws::with_new, crate::proofs::NameLaws::with_known))]
-fn add(known: &mut Vec<NamedEnd>, name: NamedEnd) -> Result<(), Code>
+/// Adds a name to those of its kind, if it is not among them, and says whether it is new.
+#[tactic(auto, using(crate::proofs::NameLaws::with_new, crate::proofs::NameLaws::with_known, crate::proofs::NameLaws::without_last))]
+fn add(known: &mut Vec<NamedEnd>, name: NamedEnd) -> Result<bool, Code>
     ensures ok { OnOk result (known.new.items ≡ with_end known.old.items name) }
+    ensures before { IfOk result (λ is_new. without_new is_new known.new.items ≡ known.old.items) }
     ensures err { OnErr result (known.new.items ≡ known.old.items) }
     ensures memory { IfErr result (λ code. code ≡ Memory) }
 {
     if has_end(known.as_slice(), &name) {
-        return Ok(());
+        return Ok(false);
     }
     known.push(name)?;
-    Ok(())
+    Ok(true)
+}
+
+/// Takes the last name of its kind back, if it is new.
+fn take_back(known: &mut Vec<NamedEnd>, is_new: bool)
+    ensures { known.new.items ≡ without_new is_new known.old.items }
+{
+    if is_new {
+        let _ = known.pop();
+    }
 }
 
 impl KnownNames {
@@ -143,35 +153,57 @@ impl KnownNames {
         )
     }
 
-    /// A writer is called so from now on.
+    /// A writer is called so from now on; gives whether its name is new.
     ///
     /// # Errors
     ///
     /// `Memory` where a growth was refused; nothing has changed then.
-    #[tactic(auto, using(crate::proofs::NameLaws::with_end_is))]
-    pub fn add_writer(&mut self, name: NamedEnd) -> Result<(), Code>
+    #[tactic(auto, using(crate::proofs::NameLaws::with_end_is, crate::proofs::NameLaws::without_before))]
+    pub fn add_writer(&mut self, name: NamedEnd) -> Result<bool, Code>
         ensures ok { OnOk result
             (self.new
             ≡ record self.old { writers = with_name self.old.writers (name_of name) }) }
+        // Without it, where it is new, all would be as it was.
+        ensures before { IfOk result (λ is_new. without_new_writer is_new self.new ≡ self.old) }
         ensures err { OnErr result (self.new ≡ self.old) }
         ensures memory { IfErr result (λ code. code ≡ Memory) }
     {
         add(&mut self.writers, name)
     }
 
-    /// A reader is called so from now on.
+    /// Takes the name of the writer back that was added last, if it was new, as where there is no memory for what else a
+    /// match wants.
+    #[tactic(auto, using(crate::proofs::NameLaws::without_new_is))]
+    pub fn take_back_writer(&mut self, is_new: bool)
+        ensures { self.new ≡ without_new_writer is_new self.old }
+    {
+        take_back(&mut self.writers, is_new);
+    }
+
+    /// A reader is called so from now on; gives whether its name is new.
     ///
     /// # Errors
     ///
     /// `Memory` where a growth was refused; nothing has changed then.
-    #[tactic(auto, using(crate::proofs::NameLaws::with_end_is))]
-    pub fn add_reader(&mut self, name: NamedEnd) -> Result<(), Code>
+    #[tactic(auto, using(crate::proofs::NameLaws::with_end_is, crate::proofs::NameLaws::without_before))]
+    pub fn add_reader(&mut self, name: NamedEnd) -> Result<bool, Code>
         ensures ok { OnOk result
             (self.new
             ≡ record self.old { readers = with_name self.old.readers (name_of name) }) }
+        // Without it, where it is new, all would be as it was.
+        ensures before { IfOk result (λ is_new. without_new_reader is_new self.new ≡ self.old) }
         ensures err { OnErr result (self.new ≡ self.old) }
         ensures memory { IfErr result (λ code. code ≡ Memory) }
     {
         add(&mut self.readers, name)
+    }
+
+    /// Takes the name of the reader back that was added last, if it was new, as where there is no memory for what else a
+    /// match wants.
+    #[tactic(auto, using(crate::proofs::NameLaws::without_new_is))]
+    pub fn take_back_reader(&mut self, is_new: bool)
+        ensures { self.new ≡ without_new_reader is_new self.old }
+    {
+        take_back(&mut self.readers, is_new);
     }
 }

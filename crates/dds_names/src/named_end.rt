@@ -1,9 +1,9 @@
 //! A name, the GUID that it stands for, and whether two of them go together.
 //!
-//! RTPS 2.5, 8.2 (GUID_t), 9.3 (GUIDPREFIX_UNKNOWN, entity kinds).
+//! RTPS 2.5, 8.2 (GUID_t), 9.3 (GUIDPREFIX_UNKNOWN, entity kinds); DDS 1.4, 2.2.3 (RELIABILITY, not changeable).
 
 ghost use Rattle.std.specs.Prelude.{◌≡◌};
-ghost use Rattle.dds_machine.specs.Naming.{agree_on_ends, agree_on_peers, is_no_name};
+ghost use Rattle.dds_machine.specs.Naming.{agree_on_ends, agree_on_peers, both_or_neither, is_no_name};
 ghost use Rattle.dds_machine.specs.Part.{same_endpoint};
 ghost use Rattle.dds_names.specs.Known.{name_of};
 
@@ -16,6 +16,8 @@ pub struct NamedEnd {
     pub end: Endpoint,
     /// Its GUID, which no other writer or reader has.
     pub guid: Guid,
+    /// Whether it is a reliable reader, which can't change. Of a writer it is true.
+    pub is_reliable: bool,
 }
 
 impl NamedEnd {
@@ -30,16 +32,28 @@ impl NamedEnd {
         }
     }
 
-    /// Whether it and another one, both writers or both readers, are of one end exactly if they have one GUID.
+    /// Whether it and another one, both writers or both readers, are of one end exactly if they have one GUID, and are
+    /// then both reliable, or both not.
     pub fn agrees_on_ends(&self, other: &NamedEnd) -> bool
         ensures { result ≡ agree_on_ends (name_of self.now) (name_of other.now) }
     {
         let same_guid = self.guid.prefix == other.guid.prefix
             && self.guid.entity == other.guid.entity;
         if self.is_of_end(other) {
-            same_guid
+            same_guid && self.is_as_reliable(other)
         } else {
             !same_guid
+        }
+    }
+
+    /// Whether both are reliable, or neither.
+    fn is_as_reliable(&self, other: &NamedEnd) -> bool
+        ensures { result ≡ both_or_neither self.now.is_reliable other.now.is_reliable }
+    {
+        if self.is_reliable {
+            other.is_reliable
+        } else {
+            !other.is_reliable
         }
     }
 

@@ -1,10 +1,11 @@
 //! The names of all ends of a configuration.
 //!
-//! RTPS 2.5, 8.2 (Participant, Endpoint, GUID_t).
+//! RTPS 2.5, 8.2 (Participant, Endpoint, GUID_t); DDS 1.4, 2.2.3 (RELIABILITY).
 
-ghost use Rattle.std.specs.Prelude.{◌≡◌, ◌++◌, ◌≤◌, length, map, IfOk, OnOk, None};
+ghost use Rattle.std.specs.Prelude.{◌≡◌, ◌++◌, ◌≤◌, true, length, map, IfOk, OnOk, None};
 ghost use Rattle.dds_base.specs.Bounds.{max_ends};
 ghost use Rattle.dds_base.specs.Checked.{check_refusal};
+ghost use Rattle.dds_base.specs.Matched.{is_reliable_reader};
 ghost use Rattle.dds_base.specs.declared.config.ReaderConfig.{ReaderConfig as ReaderConfigOf};
 ghost use Rattle.dds_base.specs.declared.config.WriterConfig.{WriterConfig as WriterConfigOf};
 ghost use Rattle.dds_machine.specs.Opening.{names_in, reader_names, writer_names};
@@ -24,7 +25,7 @@ fn push_writers(
     requires few { length writers.now ≤ max_ends }
     ensures { OnOk result
         (map name_of all.new.items ≡ map name_of all.old.items
-        ++ names_in (λ (w : WriterConfigOf). w.entity) prefix number 1 writers.now) }
+        ++ names_in (λ (w : WriterConfigOf). w.entity) (λ w. true) prefix number 1 writers.now) }
 {
     for (index, writer) in writers.iter().enumerate() {
         all.push(NamedEnd {
@@ -36,6 +37,7 @@ fn push_writers(
                 prefix,
                 entity: writer.entity,
             },
+            is_reliable: true,
         })?;
     }
     Ok(())
@@ -51,7 +53,7 @@ fn push_readers(
     requires few { length readers.now ≤ max_ends }
     ensures { OnOk result
         (map name_of all.new.items ≡ map name_of all.old.items
-        ++ names_in (λ (r : ReaderConfigOf). r.entity) prefix number 1 readers.now) }
+        ++ names_in (λ (r : ReaderConfigOf). r.entity) is_reliable_reader prefix number 1 readers.now) }
 {
     for (index, reader) in readers.iter().enumerate() {
         all.push(NamedEnd {
@@ -63,6 +65,7 @@ fn push_readers(
                 prefix,
                 entity: reader.entity,
             },
+            is_reliable: reader.reliability.is_reliable(),
         })?;
     }
     Ok(())

@@ -17,7 +17,8 @@ use Rattle.dds_machine.specs.declared.reply.Reply.{Reply}
 use Rattle.dds_machine.specs.declared.reply.Reply.TheVariants.{Done, Reported}
 use Rattle.dds_machine.specs.declared.reply.Report.{Report}
 use Rattle.dds_machine.specs.Machine.{AllTests}
-use Rattle.dds_machine.specs.Matching.{knows_reliable}
+use Rattle.dds_machine.specs.Matching.{knows_reliable, meets_reliable}
+use Rattle.dds_base.specs.Matched.{is_reliable}
 use Rattle.dds_machine.specs.Part.{Attachment, Away, Waiting, Begun, ReaderProxy, WriterProxy, own_proxies, own_writer}
 use Rattle.dds_protocol.specs.declared.event.Event.TheVariants as event
 use Rattle.dds_protocol.specs.Claims.{Receiver, receiver_of, after_submessage}
@@ -69,6 +70,10 @@ call_still : (peer : ℕ) (old : Peer) (c : Call) (reply : Reply) → GreetsNobo
 call_still peer old (call.MatchReader writer reader greeted) Done none =
     still_with old.known writer reader _
     (λ h. ap (λ (b : Bool). b && knows_reliable (own_writer old.part writer) reader) none)
+call_still peer old (call.MeetReader writer far greeted) Done none =
+    still_with old.known writer far.endpoint _
+    (λ h. ap (λ (b : Bool). b && meets_reliable (own_writer old.part writer) far.endpoint
+    (is_reliable far.requested.reliability)) none)
 call_still peer old c reply none = still_same old.known old.known refl
 
 tick_still : (old : Peer) (now : ℕ) (reply : Reply) (new : Peer) → Knows old (event.Tick now) reply new

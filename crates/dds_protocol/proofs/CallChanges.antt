@@ -20,7 +20,7 @@ use Rattle.dds_machine.specs.declared.call.Call.TheVariants as call
 use Rattle.dds_machine.specs.declared.reply.Reply.{Reply}
 use Rattle.dds_machine.specs.declared.reply.Reply.TheVariants.{Done, InstanceHandle, Samples, KeyValue, Refused}
 use Rattle.dds_machine.specs.Part.{Part, Dds, Seen, own_proxies, publication_among}
-use Rattle.dds_machine.specs.Calls.{after_look, after_matches_look, with_happening, IsDoneUnless, IsAnswered, IsAnsweredInMemory, AnswersLook, AnswersAccess, AnswersByCondition, AnswersTelling, Answers, reader_told}
+use Rattle.dds_machine.specs.Calls.{after_look, after_matches_look, with_happening, IsDoneUnless, IsAnswered, IsAnsweredInMemory, AnswersLook, AnswersAccess, AnswersByCondition, AnswersTelling, Answers, handle_once_met, far_reader_told, reader_told, far_writer_told}
 use Rattle.dds_machine.specs.Matching.{Telling, MatchReader, UnmatchReader, MatchWriter, UnmatchWriter, MeetReader, MeetWriter, seen_after_telling}
 use Rattle.dds_machine.specs.Watching.{Test, Tests}
 
@@ -52,7 +52,7 @@ telling_watch old (MatchReader w v reliable) = refl
 telling_watch old (UnmatchReader w v) = refl
 telling_watch old (MatchWriter r w) = refl
 telling_watch old (UnmatchWriter r w) = refl
-telling_watch old (MeetReader w v reliable) = refl
+telling_watch old (MeetReader w v) = refl
 telling_watch old (MeetWriter r w as_writer) = refl
 
 -- ---- by what is then there
@@ -182,4 +182,8 @@ changes_of tests old (call.UnmatchReader v r) reply new a = told_or_not (Unmatch
 changes_of tests old (call.MatchWriter v w) reply new a =
     told_or_not (MatchWriter v w) (InstanceHandle (option_map_or (λ handle. handle) (publication_among (own_proxies old v) w) 0)) old reply new a
 changes_of tests old (call.UnmatchWriter v w) reply new a = told_or_not (UnmatchWriter v w) Done old reply new a
+changes_of tests old (call.MeetReader v far greeted) reply new a =
+    told_or_not (far_reader_told v far) Done old reply new a
+changes_of tests old (call.MeetWriter v far) reply new a =
+    told_or_not (far_writer_told v far) (InstanceHandle (handle_once_met old v far.endpoint)) old reply new a
 changes_of tests old c reply new a = answered _ _ _ old reply new (search after_calls) a

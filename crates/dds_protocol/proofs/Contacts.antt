@@ -59,6 +59,7 @@ one_other known writer reader contact same = record {
 
 called_alike : (old : Peer) (c : Call) (reply : Reply) → KnowsAlike old.known (known_after old c reply)
 called_alike old (call.MatchReader writer reader greeted) Done = one_other old.known writer reader _ refl
+called_alike old (call.MeetReader writer far greeted) Done = one_other old.known writer far.endpoint _ refl
 called_alike old c reply = knows_same old.known old.known refl
 
 -- after a call

@@ -453,7 +453,7 @@ after_few old (UnmatchReader k v) none all n =
     (numbered-cases old.rtps.writers k (left (own_writer old k) v) n no_writer)
 after_few old (MatchWriter r w) none all n = all n
 after_few old (UnmatchWriter r w) none all n = all n
-after_few old (MeetReader k v reliable) none all n =
+after_few old (MeetReader k v) none all n =
     let w : Writer = own_writer old k in
     let both = or_none (matching_refusal (may_meet_reader old.rtps k v) (is_matched w v.end))
     (if knows_too_many w v.end then Some OutOfResources else None) none in
@@ -461,8 +461,8 @@ after_few old (MeetReader k v reliable) none all n =
     (λ s.
     let can = allowed (may_meet_reader old.rtps k v) (is_matched w v.end) both.0 in
     subst (λ (x : Writer). MatchesFew x) (sym s.1)
-    (met_few w v.end reliable (not_many (knows_too_many w v.end) both.1) can.1 (all k)))
-    (numbered-cases old.rtps.writers k (met w v.end reliable) n no_writer)
+    (met_few w v.end v.reliable (not_many (knows_too_many w v.end) both.1) can.1 (all k)))
+    (numbered-cases old.rtps.writers k (met w v.end v.reliable) n no_writer)
 after_few old (MeetWriter r w as_writer) none all n = all n
 
 pub few_told : (old : Part) (t : Telling) (new : Part) → TellStep old t None new → HasFewMatches old → HasFewMatches new

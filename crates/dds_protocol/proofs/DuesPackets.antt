@@ -133,7 +133,7 @@ message_followed roster peer before bytes old report dues new checked b t h =
     let bases : AllByRecursion HasBase h.message.submessages =
     bases_read h.is_read.body h.message.submessages h.is_read.left h.is_read.submessages in
     followed p 0 (receiver_of h.message.prefix) h.message.submessages all bases old report.moves report.refused dues new
-    (begun p old b) (λ r w. refl) t h.follows
+    (begun p old refl b) (λ r w. refl) t h.follows
 
 -- What is due once a peer took a packet up is true: each message, once written, claims only what is so of the peer's
 -- own lists and places.

@@ -46,7 +46,7 @@ telling_keeps old (MatchReader w v reliable) = refl
 telling_keeps old (UnmatchReader w v) = refl
 telling_keeps old (MatchWriter r w) = refl
 telling_keeps old (UnmatchWriter r w) = refl
-telling_keeps old (MeetReader w v reliable) = refl
+telling_keeps old (MeetReader w v) = refl
 telling_keeps old (MeetWriter r w as_writer) = refl
 
 call_keeps : (old : Part) (new : Dds) → CallChange old new → SameHanded old.dds new

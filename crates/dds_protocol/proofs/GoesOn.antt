@@ -134,7 +134,7 @@ by_telling old (UnmatchWriter k w) =
       qos = refl;
       more = more_parted (publication_among (own_proxies old k) w) old.dds.moment r.happened;
     })
-by_telling old (MeetReader w v reliable) = all_same old.dds.readers
+by_telling old (MeetReader w v) = all_same old.dds.readers
 by_telling old (MeetWriter k w as_writer) =
     let r : Reader = own_reader old k in
     all_with old.dds.readers k (reader_met (own_proxies old k) r w as_writer)

@@ -225,10 +225,10 @@ telling-grows old (MatchWriter r w) =
 telling-grows old (UnmatchWriter r w) =
     let rows : List WriterProxy = numbered old.readers r [] in
     set_reader-grows old r (with_how rows w Away) (still rows w Away)
-telling-grows old (MeetReader w r reliable) =
+telling-grows old (MeetReader w r) =
     let before : Writer = numbered old.writers w no_writer in
-    let grows : Grows old (with_writer old w (λ x. met x r.end reliable)) =
-    set_writer-grows old w (met before r.end reliable) (met_of (λ x. WriterGrows before x) before r.end reliable
+    let grows : Grows old (with_writer old w (λ x. met x r.end r.reliable)) =
+    set_writer-grows old w (met before r.end r.reliable) (met_of (λ x. WriterGrows before x) before r.end r.reliable
     (λ ks b. record {
       policy = refl;
       values = refl;

@@ -1,11 +1,14 @@
--- A writer that a reader does not know has no row there: the reader does not stand to it.
-use Rattle.std.proofs.Common.{◌≡◌, ℕ, true, false, List, Option, None, Some, refl, ap, sym, ◌∙◌}
-use Rattle.std.specs.Prelude.{is_some}
+-- A writer that a reader does not know has no row there: the reader does not stand to it. One that it knows it knows
+-- ever after.
+use Rattle.std.proofs.Common.{◌≡◌, ℕ, ◌+◌, Bool, true, false, List, [], ◌∷◌, Option, None, Some, refl, ap, sym, ◌∙◌}
+use Rattle.std.specs.Prelude.{if◌then◌else◌, is_some}
 use Rattle.std.specs.Option.{option_map, option_map_or}
 use Rattle.dds_base.specs.declared.endpoint.Endpoint.{Endpoint}
 use Rattle.dds_machine.specs.Matching.{is_known}
 use Rattle.dds_machine.specs.Moves.{IsMatchedAt}
-use Rattle.dds_machine.specs.Part.{Away, Part, WriterProxy, how_of, is_attached, own_proxies, place_of, row_of}
+use Rattle.dds_machine.specs.Numbered.{numbered}
+use Rattle.dds_machine.specs.Part.{Away, Part, Rtps, WriterProxy, how_of, is_attached, own_proxies, place_of, publication_among, publication_from, row_of, same_endpoint}
+use Rattle.dds_protocol.proofs.Growth.{Grows, none_before}
 
 nothing_there : (o : Option WriterProxy) → is_some o ≡ false → o ≡ None
 nothing_there None h = refl
@@ -32,3 +35,45 @@ unknown_unmatched part r w publication number unknown matched =
     ap (λ (o : Option WriterProxy). option_map (λ (p : WriterProxy). p.place) o) (no_row (own_proxies part r) w unknown) in
     let clash : None ≡ Some number = sym none ∙ matched.at in
     absurd cc
+
+-- ---- who is known
+
+-- a writer has a publication handle exactly if it is known
+handle_from : (n : ℕ) (rows : List WriterProxy) (w : Endpoint) → is_some (publication_from n rows w) ≡ is_known rows w
+handle_from n [] w = refl
+handle_from n (p ∷ ps) w = by (same_endpoint p.writer w) (handle_from (n + 1) ps w)
+  where
+    by : (b : Bool) → is_some (publication_from (n + 1) ps w) ≡ is_known ps w
+        → is_some (if b then Some n else publication_from (n + 1) ps w)
+        ≡ is_some (if b then Some p else row_of (λ (q : WriterProxy). q.writer) ps w)
+    by true later = refl
+    by false later = later
+
+-- so where it has the same handle as before, it is known as before
+pub known_by_handle : (old new : List WriterProxy) (w : Endpoint) → publication_among new w ≡ publication_among old w
+    → is_known old w ≡ true → is_known new w ≡ true
+known_by_handle old new w same known =
+    sym (handle_from 1 new w) ∙ (ap (λ (o : Option ℕ). is_some o) same ∙ (handle_from 1 old w ∙ known))
+
+-- a row has a place
+placed : (o : Option WriterProxy) → is_some (option_map (λ (p : WriterProxy). p.place) o) ≡ is_some o
+placed None = refl
+placed (Some p) = refl
+
+-- whom a reader knows it knows in all that follows
+pub known_on : (old new : Rtps) → Grows old new → (r : ℕ) (w : Endpoint)
+    → is_known (numbered old.readers r []) w ≡ true → is_known (numbered new.readers r []) w ≡ true
+known_on old new g r w known = by (row (numbered new.readers r [])) refl
+  where
+    row : List WriterProxy → Option WriterProxy
+    row rows = row_of (λ (p : WriterProxy). p.writer) rows w
+
+    by : (o : Option WriterProxy) → row (numbered new.readers r []) ≡ o → is_some o ≡ true
+    by (Some p) e = refl
+    by None e =
+        let none : place_of (numbered old.readers r []) w ≡ None =
+        none_before old new g r w (ap (λ (o : Option WriterProxy). option_map (λ (p : WriterProxy). p.place) o) e) in
+        let unknown : is_known (numbered old.readers r []) w ≡ false =
+        sym (placed (row (numbered old.readers r []))) ∙ ap (λ (o : Option ℕ). is_some o) none in
+        let clash : true ≡ false = sym known ∙ unknown in
+        absurd cc

@@ -338,7 +338,7 @@ call_came old new r (watches after filters sets is) = (
 )
 call_came old new r (is_told (MatchReader w v reliable) is) = same_came old.dds new r is
 call_came old new r (is_told (UnmatchReader w v) is) = same_came old.dds new r is
-call_came old new r (is_told (MeetReader w v reliable) is) = same_came old.dds new r is
+call_came old new r (is_told (MeetReader w v) is) = same_came old.dds new r is
 call_came old new r (is_told (MeetWriter k w as_writer) is) =
     changed_reader old new k (reader_met (own_proxies old k) (own_reader old k) w as_writer) r
     (λ p. meeting_came (is_known (own_proxies old k) w) as_writer (own_reader old k).happened p) is
@@ -442,7 +442,7 @@ effect_lane changes old new w r (tells (UnmatchReader k v)) l h own came =
 effect_lane changes old new w r (tells (MatchWriter k v)) l h own came =
     lane_rows changes old new w r k (with_match (own_proxies old k) v) l (ap (λ (x : Rtps). x.readers) h) own came
     (λ handle place. match_stays (own_proxies old k) v w handle place)
-effect_lane changes old new w r (tells (MeetReader k v reliable)) l h own came =
+effect_lane changes old new w r (tells (MeetReader k v)) l h own came =
     lane_same changes old new w r l (ap (λ (x : Rtps). x.readers) h) own came
 effect_lane changes old new w r (tells (MeetWriter k v as_writer)) l h own came =
     lane_rows changes old new w r k (with_match (own_proxies old k) v) l (ap (λ (x : Rtps). x.readers) h) own came

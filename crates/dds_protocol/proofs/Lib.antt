@@ -77,6 +77,7 @@ pub mod PairAsks
 pub mod PairNamed
 pub mod PairFound
 pub mod Compared
+pub mod FarCompared
 pub mod CallChanges
 pub mod FiltersKept
 pub mod AtEnds
@@ -92,6 +93,7 @@ pub mod ClosedSteps
 pub mod Tellings
 pub mod GoesOn
 pub mod Answered
+pub mod Meetings
 pub mod Rosters
 pub mod Coming
 pub mod Listed

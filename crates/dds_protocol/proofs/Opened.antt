@@ -316,7 +316,7 @@ no_deliveries peers zero d c = absurd (omega (arith, c.1))
 no_deliveries peers (suc i) d c =
     let n = ap (λ (xs : List Delivery). length xs) (opening_delivered peers 1 peers i) in absurd (omega (arith, n, c.1))
 
-opening_numbers : (peers : List PeerConfig) (i : ℕ) → HasNumber (opening_peers peers 1 peers) i
+pub opening_numbers : (peers : List PeerConfig) (i : ℕ) → HasNumber (opening_peers peers 1 peers) i
     → (numbered (opening_peers peers 1 peers) i no_peer).number ≡ i
 opening_numbers peers zero h = absurd (omega (arith, h.0))
 opening_numbers peers (suc i) h =
@@ -334,7 +334,7 @@ mapped_is {X = X} {Y = Y} f xs (suc i) x d low h = get_is xs i (ap (λ (k : ℕ)
     get_is (y ∷ ys) zero h = ap f (same_Some y x h)
     get_is (y ∷ ys) (suc k) h = get_is ys k h
 
-opened_count : (all ps : List PeerConfig) (n : ℕ) → length (opening_peers all n ps) ≡ length ps
+pub opened_count : (all ps : List PeerConfig) (n : ℕ) → length (opening_peers all n ps) ≡ length ps
 opened_count all [] n = refl
 opened_count all (p ∷ ps) n = let e = opened_count all ps (n + 1) in omega (arith, e)
 

@@ -123,6 +123,7 @@ backed roster number p f = record {
       };
   newest = λ w r has d count among h. let none = among.1 in absurd (omega (arith, none));
   heard = λ w r count h. absurd (fresh_heard (own_proxies p.part r) w count (f.proxies r) h);
+  then = λ d r w among found. let none = among.1 in absurd (omega (arith, none));
 }
 
 -- at the opening all that a peer knows is what was claimed

@@ -85,7 +85,7 @@ telling_qos old (MatchWriter k w) r =
 telling_qos old (UnmatchWriter k w) r =
     changed_qos old (seen_after_telling old (UnmatchWriter k w)) k
     (reader_left (own_reader old k) w (parted_at old k w)) r refl refl
-telling_qos old (MeetReader w v reliable) r = refl
+telling_qos old (MeetReader w v) r = refl
 telling_qos old (MeetWriter k w as_writer) r =
     changed_qos old (seen_after_telling old (MeetWriter k w as_writer)) k
     (reader_met (own_proxies old k) (own_reader old k) w as_writer) r refl refl

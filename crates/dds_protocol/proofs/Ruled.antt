@@ -15,6 +15,7 @@ use Rattle.rtps_reader.specs.Advance.{known}
 use Rattle.dds_base.specs.declared.endpoint.Endpoint.{Endpoint}
 use Rattle.dds_machine.specs.declared.reply.Move.{Move}
 use Rattle.dds_machine.specs.declared.reply.Move.TheVariants.{Place}
+use Rattle.dds_machine.specs.Matching.{is_known}
 use Rattle.dds_machine.specs.Numbered.{HasNumber}
 use Rattle.dds_machine.specs.Part.{WriterProxy, own_proxies, own_reader, place_of, with_place, heard_of, at_reader}
 use Rattle.dds_machine.specs.Moves.{Grounds, as_to, match_of, position_at, IsMove, AreMoves}
@@ -22,6 +23,7 @@ use Rattle.dds_protocol.specs.Peer.{Delivery, claimed, packets_of}
 use Rattle.dds_protocol.specs.Protocol.{State, GoesBy, Goes, with_tracked}
 use Rattle.dds_protocol.specs.Backed.{IsClaimed, TookNone, IsBacked}
 use Rattle.dds_protocol.proofs.Framing.{Frames, frames_at, pair_or_not, number_or_not, has_reader, at_reader_same, tracked_here, tracked_elsewhere, heard_still}
+use Rattle.dds_protocol.proofs.KnownRows.{known_by_handle}
 use Rattle.dds_protocol.proofs.Knowing.{gone_claimed}
 use Rattle.dds_protocol.proofs.Ways.{Went}
 use Rattle.dds_machine.proofs.Tables.{numbered-same, place-hits}
@@ -84,8 +86,17 @@ backed_on roster peer packets deliveries v k old new f b h = record {
       (λ apart. ap (λ (t : Tracked). is_later t.count count) (f.tracked w r apart)
       ∙ b.heard w r count (before (λ xs. heard_of xs w) w r (f.heard w) apart (number_or_not r k) ∙ e))
       (pair_or_not w r v k);
+  then = λ d r w among found. still r w (b.then d r w among found) (number_or_not r k);
 }
   where
+    still : (r : ℕ) (w : Endpoint) → is_known (own_proxies old.part r) w ≡ true → (r ≡ k) ⊎ (r ≡ k → ⊥)
+        → is_known (own_proxies new.part r) w ≡ true
+    still r w known (inl e) =
+        subst (λ (n : ℕ). is_known (own_proxies new.part n) w ≡ true) (sym e)
+        (known_by_handle (own_proxies old.part k) (own_proxies new.part k) w (f.handles w)
+        (subst (λ (n : ℕ). is_known (own_proxies old.part n) w ≡ true) e known))
+    still r w known (inr n) = ap (λ (rows : List WriterProxy). is_known rows w) (f.proxies r n) ∙ known
+
     before : {X : Type 0} (of : List WriterProxy → X) (w : Endpoint) (r : ℕ)
         → ((w ≡ v → ⊥) → of (own_proxies new.part k) ≡ of (own_proxies old.part k)) → ((w ≡ v) × (r ≡ k) → ⊥)
         → (r ≡ k) ⊎ (r ≡ k → ⊥) → of (own_proxies old.part r) ≡ of (own_proxies new.part r)

@@ -15,7 +15,8 @@ use Rattle.rtps_wire.specs.Messages.{ReadsMessage}
 use Rattle.dds_base.specs.declared.endpoint.Endpoint.{Endpoint}
 use Rattle.dds_machine.specs.declared.reply.Move.{Move}
 use Rattle.dds_machine.specs.declared.reply.Report.{Report}
-use Rattle.dds_machine.specs.Numbered.{HasNumber}
+use Rattle.dds_machine.specs.Matching.{is_known}
+use Rattle.dds_machine.specs.Numbered.{HasNumber, numbered}
 use Rattle.dds_machine.specs.Part.{WriterProxy, Part, own_proxies, place_of, heard_of}
 use Rattle.dds_machine.specs.Moves.{IsMatchedAt, AreMoves}
 use Rattle.dds_protocol.specs.Claims.{Receiver, receiver_of, after_submessage, StandsAt, StandsIn, IsReader, IsToReader, ChangeIs, Concerns, Says}
@@ -212,6 +213,26 @@ newest_by p report w r o here earlier d count among h =
 abbrev refused_at : Option ℕ → Report
 refused_at refused = record { moves = []; refused = refused }
 
+-- whom the readers knew when the delivery came, they know
+abbrev Knows : Part → Delivery → Type 0
+Knows part d =
+    (r : ℕ) (w : Endpoint) → is_known (numbered d.rows r []) w ≡ true → is_known (own_proxies part r) w ≡ true
+
+-- where they know whom they knew at this delivery, and at earlier ones
+knows_by : (here : Delivery) (before : List Delivery) (part : Part) → Knows part here
+    → ((d : Delivery) → Contains before d → Knows part d) → (d : Delivery) → Contains (here ∷ before) d → Knows part d
+knows_by here before part now earlier d among =
+    ⊎_elim (λ e. subst (λ (x : Delivery). Knows part x) e now) (λ a. earlier d a) (newer here before d among)
+
+-- whatever is reported of it
+knows_still : (p : Packet) (old new : Report) (part : Part)
+    → ((d : Delivery) → Contains (record { packet = p.bytes; rows = p.rows; report = old } ∷ p.before) d → Knows part d)
+    → (d : Delivery) → Contains (record { packet = p.bytes; rows = p.rows; report = new } ∷ p.before) d → Knows part d
+knows_still p old new part knows d among =
+    let here : Delivery = record { packet = p.bytes; rows = p.rows; report = old } in
+    knows_by (record { packet = p.bytes; rows = p.rows; report = new }) p.before part
+    (knows here (0, omega arith, refl)) (λ e a. knows e (later_in here p.before e a)) d among
+
 -- another bound for what was applied of this packet
 rebacked : (p : Packet) (old new : Option ℕ) (s : State)
     → ((w : Endpoint) (r : ℕ) (count : ℤ) → HasNumber s.part.rtps.readers r → (a : IsAppliedAt p new w r count)
@@ -229,6 +250,8 @@ rebacked p old new s f b = record {
       (λ e n a k. b.newest w r has e n (later_in (record { packet = p.bytes; rows = p.rows; report = refused_at old }) p.before e a) k)
       d count among h;
   heard = b.heard;
+  then = λ d r w among.
+      knows_still p (refused_at old) (refused_at new) s.part (λ e a k v. b.then e k v a) d among r w;
 }
   where
     bounded : (w : Endpoint) (r : ℕ) (count : ℤ) (a : IsAppliedAt p new w r count) → IsBefore a.index old
@@ -366,8 +389,9 @@ follows_up p index at (s ∷ ss) rest old moves refused dues new b met (inr h) =
 -- ---- the packet
 
 -- what is known is backed, before the packet is looked at
-pub begun : (p : Packet) (s : State) → IsBacked p.roster p.peer (packets_of p.before) p.before s → Backed p (Some 0) s
-begun p s b = record {
+pub begun : (p : Packet) (s : State) → s.part.rtps.readers ≡ p.rows
+    → IsBacked p.roster p.peer (packets_of p.before) p.before s → Backed p (Some 0) s
+begun p s found b = record {
   place = b.place;
   unknown = b.unknown;
   claimed = λ w r.
@@ -390,6 +414,10 @@ begun p s b = record {
       (λ n a. let none = a.before in absurd (omega (arith, none)))
       (λ e n a k. b.newest w r has e n a k) d count among h;
   heard = b.heard;
+  then = λ d r w among.
+      knows_by (record { packet = p.bytes; rows = p.rows; report = refused_at (Some 0) }) p.before s.part
+      (λ k v known. ap (λ (rows : List (List WriterProxy)). is_known (numbered rows k []) v) found ∙ known)
+      (λ e a k v. b.then e k v a) d among r w;
 }
 
 -- the delivery is so reported
@@ -407,6 +435,8 @@ reported p report s b = record {
       (λ e n a k. b.newest w r has e n
       (later_in (record { packet = p.bytes; rows = p.rows; report = refused_at report.refused }) p.before e a) k) d count among h;
   heard = b.heard;
+  then = λ d r w among.
+      knows_still p (refused_at report.refused) report s.part (λ e a k v. b.then e k v a) d among r w;
 }
 
 -- a packet that is no message tells nothing
@@ -455,6 +485,11 @@ unread_backed roster peer before bytes old new report taken same b = record {
   heard =
       λ w r count e. ap (λ (x : Known). is_later (x.tracked w r).count count) same
       ∙ b.heard w r count (ap (λ (q : Part). heard_of (own_proxies q r) w) (sym taken.after) ∙ e);
+  then = λ d r w among.
+      let part : new.part ≡ old.part = taken.after in
+      knows_by (record { packet = bytes; rows = old.part.rtps.readers; report = report }) before new.part
+      (λ k v known. ap (λ (q : Part). is_known (own_proxies q k) v) part ∙ known)
+      (λ e a k v known. ap (λ (q : Part). is_known (own_proxies q k) v) part ∙ b.then e k v a known) d among r w;
 }
 
 pub record IsTakenUp (roster : Roster) (peer : ℕ) (before : List Delivery) (bytes : List ℕ) (old : State)
@@ -488,7 +523,7 @@ takes_packet roster peer before bytes old report dues new checked b (inl h) =
     } in
     let up : Up p 0 (receiver_of h.message.prefix) h.message.submessages old report.moves report.refused new =
     follows_up p 0 (receiver_of h.message.prefix) h.message.submessages all old report.moves report.refused dues new
-    (begun p old b) (λ r w. refl) h.follows in
+    (begun p old refl b) (λ r w. refl) h.follows in
     record {
       receives = inl (record { message = h.message; offset = h.offset; is_read = h.is_read; taken = up.takes });
       backed = reported p report new up.backed;

@@ -55,6 +55,7 @@ acknack_takes c a this writer reader old made dues new b is h = record {
         claimed = b.claimed;
         newest = b.newest;
         heard = b.heard;
+        then = b.then;
       });
   readers = ap (λ (x : State). length x.part.rtps.readers) h.after;
 }

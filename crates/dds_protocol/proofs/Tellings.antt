@@ -19,6 +19,7 @@ use Rattle.dds_protocol.specs.Protocol.{State}
 use Rattle.dds_protocol.proofs.DuesFew.{few_told}
 use Rattle.dds_protocol.proofs.DuesParts.{call_part}
 use Rattle.dds_protocol.proofs.Growth.{CallStep-grows, CallStep-rows, Untold, none_before}
+use Rattle.dds_protocol.proofs.KnownRows.{known_on}
 use Rattle.dds_protocol.proofs.Told.{OrNew, telling_keeps, telling_places, telling_readers, telling_rows, told_so, untold_or_told}
 
 -- what is there of the rows of readers was there, or is that of a new row; and there are as many readers
@@ -71,6 +72,9 @@ call_backed roster peer packets deliveries old tests c reply after h b =
           ⊎_elim (λ same. b.heard w r count (sym same ∙ e))
           (λ fresh. absurd (let no : ◌≡◌ {A = Option (Option ℤ)} (Some None) (Some (Some count)) = sym fresh.1 ∙ e in cc))
           (rows.heard r w);
+      then = λ d r w among found.
+          known_on old.part.rtps after.rtps (CallStep-grows tests old.part c reply after h) r w
+          (b.then d r w among found);
     }
 
 -- ---- what is due

@@ -10,7 +10,7 @@ use Rattle.dds_machine.specs.declared.call.Call.{Call}
 use Rattle.dds_machine.specs.declared.call.Call.TheVariants as call
 use Rattle.dds_machine.specs.declared.reply.Reply.{Reply}
 use Rattle.dds_machine.specs.declared.reply.Reply.TheVariants.{Done, InstanceHandle, LivelinessLost, Matched}
-use Rattle.dds_machine.specs.Calls.{Answers, CallStep, Effect, nothing, writes, tells, looks_at_matches, effect, effect_of, reader_told}
+use Rattle.dds_machine.specs.Calls.{Answers, CallStep, Effect, nothing, writes, tells, looks_at_matches, effect, effect_of, far_reader_told, reader_told, far_writer_told}
 use Rattle.dds_machine.specs.Matching.{Telling, MatchReader, UnmatchReader, MatchWriter, UnmatchWriter, MeetReader, MeetWriter, TellStep, after_telling, is_known, joined, left, met, seen_after_telling, telling_refusal, with_how, with_match}
 use Rattle.dds_machine.specs.Numbered.{numbered, with_numbered}
 use Rattle.dds_machine.specs.Part.{Attachment, Away, Waiting, Dds, Part, Rtps, TopicReader, Writer, WriterProxy, no_writer, place_of, row_of}
@@ -63,6 +63,12 @@ answer_says tests old (call.MatchWriter v w) (InstanceHandle handle) new a t e =
 answer_says tests old (call.MatchWriter v w) reply new a t e = cc
 answer_says tests old (call.UnmatchWriter v w) Done new a t e = said old (UnmatchWriter v w) new _ (a.0, a.2) refl t e
 answer_says tests old (call.UnmatchWriter v w) reply new a t e = cc
+answer_says tests old (call.MeetReader v far greeted) Done new a t e =
+    said old (far_reader_told v far) new _ (a.0, a.2) refl t e
+answer_says tests old (call.MeetReader v far greeted) reply new a t e = cc
+answer_says tests old (call.MeetWriter v far) (InstanceHandle handle) new a t e =
+    said old (far_writer_told v far) new _ (a.0, a.2) refl t e
+answer_says tests old (call.MeetWriter v far) reply new a t e = cc
 answer_says tests old (call.Register v key) Done new a t e = cc
 answer_says tests old (call.Write v key value) Done new a t e = cc
 answer_says tests old (call.Dispose v key) Done new a t e = cc
@@ -162,7 +168,7 @@ telling_rows {V} field fresh kept is old (UnmatchWriter k v) r w =
     (λ p. refl) (λ p. kept p Away) rows v w
     ∙ ap (λ (j : ℕ). of (numbered old.readers j [])) (sym s.0))))
     (numbered-cases old.readers k (with_how rows v Away) r [])
-telling_rows {V} field fresh kept is old (MeetReader k v reliable) r w = inl refl
+telling_rows {V} field fresh kept is old (MeetReader k v) r w = inl refl
 telling_rows {V} field fresh kept is old (MeetWriter k v as_writer) r w = match_rows field fresh kept is old k v r w
 
 -- a place that is there was there, or there was none and it is 1
@@ -180,8 +186,8 @@ telling_count old (UnmatchReader w r) =
     length-with_numbered old.writers w (left (numbered old.writers w no_writer) r)
 telling_count old (MatchWriter r w) = refl
 telling_count old (UnmatchWriter r w) = refl
-telling_count old (MeetReader w r reliable) =
-    length-with_numbered old.writers w (met (numbered old.writers w no_writer) r.end reliable)
+telling_count old (MeetReader w r) =
+    length-with_numbered old.writers w (met (numbered old.writers w no_writer) r.end r.reliable)
 telling_count old (MeetWriter r w as_writer) = refl
 
 -- a value of a writer that no match changes
@@ -204,10 +210,10 @@ telling_keeps {X} f joining leaving knows old (UnmatchReader k r) w =
     telling_put f old.writers k (left before r) (leaving before r) w
 telling_keeps {X} f joining leaving knows old (MatchWriter r v) w = refl
 telling_keeps {X} f joining leaving knows old (UnmatchWriter r v) w = refl
-telling_keeps {X} f joining leaving knows old (MeetReader k r reliable) w =
+telling_keeps {X} f joining leaving knows old (MeetReader k r) w =
     let before : Writer = numbered old.writers k no_writer in
-    telling_put f old.writers k (met before r.end reliable)
-    (met_of (λ x. f x ≡ f before) before r.end reliable
+    telling_put f old.writers k (met before r.end r.reliable)
+    (met_of (λ x. f x ≡ f before) before r.end r.reliable
     (λ ks b. joining (record before { known = ks }) r.end b ∙ knows before ks)) w
 telling_keeps {X} f joining leaving knows old (MeetWriter r v as_writer) w = refl
 
@@ -219,7 +225,7 @@ telling_readers old (MatchWriter r w) =
     length-with_numbered old.readers r (with_match (numbered old.readers r []) w)
 telling_readers old (UnmatchWriter r w) =
     length-with_numbered old.readers r (with_how (numbered old.readers r []) w Away)
-telling_readers old (MeetReader w r reliable) = refl
+telling_readers old (MeetReader w r) = refl
 telling_readers old (MeetWriter r w as_writer) =
     length-with_numbered old.readers r (with_match (numbered old.readers r []) w)
 
@@ -250,8 +256,8 @@ telling_covered old (UnmatchReader w v) r place k h =
     (λ c. covered_left before v r (place w) (no_less_same (place w)) c) k h
 telling_covered old (MatchWriter n w) r place k h = h
 telling_covered old (UnmatchWriter n w) r place k h = h
-telling_covered old (MeetReader w v reliable) r place k h =
+telling_covered old (MeetReader w v) r place k h =
     let before : Writer = numbered old.writers w no_writer in
-    set_covered old.writers w (met before v.end reliable) r place
-    (λ c. covered_met before v.end reliable r (place w) (no_less_same (place w)) c) k h
+    set_covered old.writers w (met before v.end v.reliable) r place
+    (λ c. covered_met before v.end v.reliable r (place w) (no_less_same (place w)) c) k h
 telling_covered old (MeetWriter n w as_writer) r place k h = h

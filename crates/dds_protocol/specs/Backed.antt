@@ -2,14 +2,15 @@
 --
 -- A notion of this project, of what a reader knows by RTPS 2.5, 8.4.10 (WriterProxy, ChangeFromWriter), and a
 -- packet says by 8.3.8.
-use Rattle.std.specs.Prelude.{◌≡◌, ℕ, ◌≤◌, true, false, List, None, Some, ℤ, Contains}
+use Rattle.std.specs.Prelude.{◌≡◌, ℕ, ◌≤◌, true, false, List, [], None, Some, ℤ, Contains}
 use Rattle.dds_base.specs.declared.change.Change.{Change}
 use Rattle.dds_protocol.specs.Roster.{Roster}
 use Rattle.dds_base.specs.Counts.{is_later}
 use Rattle.rtps_reader.specs.Tracked.{Held, Tracked, is_passable}
 use Rattle.dds_base.specs.declared.endpoint.Endpoint.{Endpoint}
 use Rattle.dds_protocol.specs.Claims.{ChangeIs, MayPass, Claimed}
-use Rattle.dds_machine.specs.Numbered.{HasNumber}
+use Rattle.dds_machine.specs.Matching.{is_known}
+use Rattle.dds_machine.specs.Numbered.{HasNumber, numbered}
 use Rattle.dds_machine.specs.declared.call.Call.{Call}
 use Rattle.dds_machine.specs.declared.reply.Reply.{Reply}
 use Rattle.dds_machine.specs.Calls.{CallStep}
@@ -38,7 +39,8 @@ TookNone roster peer deliveries writer reader t =
     → IsApplied roster delivery writer (reader_at peer reader) count → is_later t.count count ≡ false
 
 -- all that a peer knows is claimed by these packets, and these deliveries told nothing newer; the place that it knows
--- is that of the row, and 1 where there is none
+-- is that of the row, and 1 where there is none; and a writer that a reader knew when one of these deliveries came is
+-- still known to it
 pub record IsBacked (roster : Roster) (peer : ℕ) (packets : List (List ℕ)) (deliveries : List Delivery)
     (state : State) : Type 0 where
   pub place : (w : Endpoint) (r p : ℕ) → place_of (own_proxies state.part r) w ≡ Some p
@@ -50,6 +52,8 @@ pub record IsBacked (roster : Roster) (peer : ℕ) (packets : List (List ℕ)) (
       → TookNone roster peer deliveries w r (state.known.tracked w r)
   pub heard : (w : Endpoint) (r : ℕ) (count : ℤ) → heard_of (own_proxies state.part r) w ≡ Some (Some count)
       → is_later (state.known.tracked w r).count count ≡ false
+  pub then : (d : Delivery) (r : ℕ) (w : Endpoint) → Contains deliveries d → is_known (numbered d.rows r []) w ≡ true
+      → is_known (own_proxies state.part r) w ≡ true
 
 -- so it is after a call, whoever is told by it that a writer and a reader are matched, or no longer
 abbrev pub CallsBacked : Type 0

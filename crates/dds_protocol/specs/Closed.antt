@@ -10,7 +10,7 @@ use Rattle.dds_base.specs.declared.qos.HistoryQos.TheVariants.{KeepAll}
 use Rattle.dds_base.specs.Kept.{is_dropped}
 use Rattle.dds_base.specs.Matched.{is_reliable}
 use Rattle.dds_base.specs.declared.endpoint.Endpoint.{Endpoint}
-use Rattle.dds_machine.specs.declared.call.Call.TheVariants.{MatchReader, UnmatchReader, MatchWriter, UnmatchWriter}
+use Rattle.dds_machine.specs.declared.call.Call.TheVariants.{MatchReader, UnmatchReader, MatchWriter, UnmatchWriter, MeetReader, MeetWriter}
 use Rattle.dds_machine.specs.declared.event.WorldEvent.{WorldEvent}
 use Rattle.dds_machine.specs.declared.event.WorldEvent.TheVariants as event
 use Rattle.dds_machine.specs.declared.reply.Move.{Move}
@@ -35,6 +35,8 @@ TellsNobody (event.Call peer (MatchReader writer reader greeted)) = ⊥
 TellsNobody (event.Call peer (UnmatchReader writer reader)) = ⊥
 TellsNobody (event.Call peer (MatchWriter reader writer)) = ⊥
 TellsNobody (event.Call peer (UnmatchWriter reader writer)) = ⊥
+TellsNobody (event.Call peer (MeetReader writer far greeted)) = ⊥
+TellsNobody (event.Call peer (MeetWriter reader far)) = ⊥
 TellsNobody other = Unit {0}
 
 -- nor by any of these

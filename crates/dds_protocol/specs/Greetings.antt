@@ -6,7 +6,7 @@ use Rattle.std.specs.Prelude.{◌≡◌, ℕ, false, List, [], ◌∷◌}
 use Rattle.dds_base.specs.declared.config.Config.{Config}
 use Rattle.dds_protocol.specs.Roster.{Roster}
 use Rattle.dds_base.specs.declared.endpoint.Endpoint.{Endpoint}
-use Rattle.dds_machine.specs.declared.call.Call.TheVariants.{MatchReader}
+use Rattle.dds_machine.specs.declared.call.Call.TheVariants.{MatchReader, MeetReader}
 use Rattle.dds_machine.specs.declared.event.WorldEvent.{WorldEvent}
 use Rattle.dds_machine.specs.declared.event.WorldEvent.TheVariants.{Call}
 use Rattle.dds_machine.specs.declared.reply.Reply.{Reply}
@@ -23,6 +23,7 @@ NobodyIsSilent world = (writer reader : Endpoint)
 -- nobody is greeted by the event
 abbrev pub GreetsNobody : WorldEvent → Type 0
 GreetsNobody (Call peer (MatchReader writer reader greeted)) = greeted ≡ false
+GreetsNobody (Call peer (MeetReader writer far greeted)) = greeted ≡ false
 GreetsNobody other = Unit {0}
 
 -- nor by any of these

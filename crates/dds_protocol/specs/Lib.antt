@@ -12,6 +12,7 @@ pub mod InOrder
 pub mod Bounds
 pub mod Contact
 pub mod Greetings
+pub mod Meetings
 pub mod DueMessages
 pub mod Protocol
 pub mod Resuming

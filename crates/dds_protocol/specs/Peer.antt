@@ -3,10 +3,11 @@
 --
 -- RTPS 2.5, 8.2 (Participant), 8.4 (behaviour). That packets make claims, on which a step rests, is a notion of
 -- this project.
-use Rattle.std.specs.Prelude.{◌≡◌, ◌⊎◌, ℕ, ◌<◌, ◌&&◌, true, false, List, [], ◌∷◌, map, Option, Some, None, ℤ, ◌<ℤ◌, Contains}
+use Rattle.std.specs.Prelude.{◌≡◌, ◌⊎◌, ℕ, ◌<◌, ◌&&◌, Bool, true, false, List, [], ◌∷◌, map, Option, Some, None, ℤ, ◌<ℤ◌, Contains}
 use Rattle.dds_protocol.specs.Roster.{Roster}
 use Rattle.dds_base.specs.declared.guid.GuidPrefix.{GuidPrefix}
 use Rattle.dds_base.specs.Kept.{change_at, is_dropped}
+use Rattle.dds_base.specs.Matched.{is_reliable}
 use Rattle.rtps_wire.specs.declared.heartbeat.Heartbeat.{Heartbeat as HeartbeatBody}
 use Rattle.rtps_wire.specs.declared.submessage.Submessage.TheVariants.{Heartbeat}
 use Rattle.dds_base.specs.declared.endpoint.Endpoint.{Endpoint}
@@ -16,13 +17,13 @@ use Rattle.dds_protocol.specs.declared.event.Output.{Output}
 use Rattle.dds_protocol.specs.declared.event.Packet.{Packet}
 use Rattle.dds_machine.specs.declared.reply.Reply.{Reply}
 use Rattle.dds_machine.specs.declared.call.Call.{Call}
-use Rattle.dds_machine.specs.declared.call.Call.TheVariants.{MatchReader}
+use Rattle.dds_machine.specs.declared.call.Call.TheVariants.{MatchReader, MeetReader}
 use Rattle.dds_machine.specs.declared.reply.Reply.TheVariants.{Done, Reported}
 use Rattle.dds_machine.specs.declared.reply.Report.{Report}
 use Rattle.dds_machine.specs.Numbered.{numbered}
 use Rattle.dds_machine.specs.Part.{WriterProxy, how_of, is_attached, Part, no_part, own_writer, own_proxies, acknowledged_of, place_of, writer_changes, history_of, is_assertion, owed_from, IsBelow, IsAtMost}
 use Rattle.dds_machine.specs.Moves.{Grounds, ResumeStep}
-use Rattle.dds_machine.specs.Matching.{knows_reliable}
+use Rattle.dds_machine.specs.Matching.{knows_reliable, meets_reliable}
 use Rattle.dds_machine.specs.Ticks.{TicksAsked}
 use Rattle.dds_machine.specs.Calls.{CallStep}
 use Rattle.dds_machine.specs.Watching.{Tests}
@@ -136,15 +137,18 @@ EventStep roster tests old (event.Resume reader) reply new =
     ResumeStep (claimed_by roster (packets_of old.delivered) old.number) old.part reader reply new.part
     × (new.delivered ≡ old.delivered)
 
--- what a peer knows once a call was answered so: a reader that a writer is told of asks for nothing; where it is a
--- reliable one, and is greeted, it is silent
+-- what is known once a writer was told of a reader: it asks for nothing, and is silent or not
+abbrev pub known_once_told : Known → ℕ → Endpoint → Bool → Known
+known_once_told known writer reader silent =
+    with_answered known writer reader (record (known.answered writer reader) { asks = false; silent = silent })
+
+-- what a peer knows once a call was answered so: where a reader that a writer is told of is a reliable one, and is
+-- greeted, it is silent
 abbrev pub known_after : Peer → Call → Reply → Known
 known_after old (MatchReader writer reader greeted) Done =
-    with_answered old.known writer reader
-    (record (old.known.answered writer reader) {
-      asks = false;
-      silent = greeted && knows_reliable (own_writer old.part writer) reader;
-    })
+    known_once_told old.known writer reader (greeted && knows_reliable (own_writer old.part writer) reader)
+known_after old (MeetReader writer far greeted) Done = known_once_told old.known writer far.endpoint
+    (greeted && meets_reliable (own_writer old.part writer) far.endpoint (is_reliable far.requested.reliability))
 known_after old call reply = old.known
 
 -- what a peer knows changes by deliveries, and where places are tried again; but a reader that was asking for a

@@ -15,6 +15,7 @@ ghost use Rattle.dds_protocol.specs.Fresh.{OpensUsed, StepsUsed};
 ghost use Rattle.dds_protocol.specs.Greetings.{OpensAnswered, RunsAnswered, StaysAnswered};
 ghost use Rattle.dds_protocol.specs.InOrder.{ChangesComeInOrder};
 ghost use Rattle.dds_protocol.specs.Laws.{AnswersAreTrue, AnswersCanBeWritten, AssertionsAreTrue, AssertionsCanBeWritten, Composes, ComposesRuns, HeartbeatsAreTrue, HeartbeatsCanBeWritten, KeepAllIsKept, OpensBacked, OpensSound, OwnersExist, ReadersTellWritersApart, ResumesRestOnClaims, RulesRestOnClaims};
+ghost use Rattle.dds_protocol.specs.Meetings.{NobodyIsMet};
 ghost use Rattle.dds_protocol.specs.Protocol.{answers_per};
 ghost use Rattle.dds_protocol.specs.Repair.{AnswersAreFew, AsksAreSent, BeatsAreSent, PairCatchesUp, packets_for};
 ghost use Rattle.dds_protocol.specs.Roster.{ConfigsAreGood, GoodAreRosters};
@@ -119,6 +120,15 @@ pub fn whoever_comes_or_goes()
     ensures backed { CallsBacked }
     // and after one that tells, what it has to send is true, and can be written, as before.
     ensures due { CallsStayDue }
+{}
+
+/// A peer may meet writers and readers that no configuration lists, by two calls. By any other event it meets nobody, nor
+/// by one that is refused: so these ask nothing of a roster.
+///
+/// RTPS 2.5, 8.4.7.4, 8.4.10.3.
+pub fn nobody_is_met()
+    // Whatever the roster, it has whom the peer meets by these.
+    ensures none { NobodyIsMet }
 {}
 
 /// After every run, the changes of a writer that keeps all that came at a reader that it was matched with at the

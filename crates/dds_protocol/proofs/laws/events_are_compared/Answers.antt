@@ -18,6 +18,7 @@ use Rattle.dds_protocol.specs.contracts.event.EventPartialEq.TheImpl as of_event
 use Rattle.dds_machine.specs.declared.call.Call.{Call}
 use Rattle.dds_protocol.specs.declared.event.Event.{Event}
 use Rattle.dds_protocol.proofs.Compared.{of_variants, ◌⨾◌, bare, last, more, lists, keys, endpoints, entities, conds, status_masks}
+use Rattle.dds_protocol.proofs.FarCompared.{far_readers, far_writers}
 use Rattle.dds_protocol.proofs.laws.events_are_compared.Goals as goal
 
 masks : (a b : Masks) → Decides (of_masks.ghosts.eq a b) (a ≡ b)
@@ -73,6 +74,8 @@ calls = of_variants enum_of_calls _
     ⨾ more Decides-eqb (last endpoints)  -- UnmatchWriter
     ⨾ last Decides-eqb  -- GetPublicationMatched
     ⨾ last Decides-eqb  -- GetSubscriptionMatched
+    ⨾ more Decides-eqb (more far_readers (last booleans_Decides))  -- MeetReader
+    ⨾ more Decides-eqb (last far_writers)  -- MeetWriter
     ⨾ tt)
 
 events : (a b : Event) → Decides (of_events.ghosts.eq a b) (a ≡ b)
