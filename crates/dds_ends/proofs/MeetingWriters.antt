@@ -100,6 +100,18 @@ new_accepted kept writer none few proxies r tracked s =
     by true e = absurd (grind (arith, nat_tests, e, few))
     by false e = refl
 
+-- ---- what is looked through
+
+-- what is so of the rows that were looked through is so of those of the reader
+pub on_rows : {kept now : ReaderKept} {names : List WriterName} (P : List WriterName → Type 0) → kept ≡ now
+    → names ≡ kept.writers → P names → P now.writers
+on_rows P view is h = subst P (is ∙ ap (λ (k : ReaderKept). k.writers) view) h
+
+-- as many as were counted
+pub as_many : {kept now : ReaderKept} {len row : ℕ} → kept ≡ now → len ≡ length kept.writers → row ≡ len
+    → row ≡ length now.writers
+as_many view len is = is ∙ (len ∙ ap (λ (k : ReaderKept). length k.writers) view)
+
 -- ---- what it stands for then
 
 -- some row is of a writer that has one ..

@@ -262,6 +262,13 @@ full_as kept peer w answered s =
     ∙ ap (λ (n : ℕ). nat_le max_ends (count_by (λ (k : TopicName). k.name.reader.peer == peer) kept.known)
     || nat_le max_known n) (length-map kept.known topic_reader))
 
+-- what was found of those that were looked through is so of those that the writer knows
+pub full_now : {kept now : WriterKept} {known : List TopicName} (peer : ℕ) (found b : Bool) → kept ≡ now
+    → known ≡ kept.known → found ≡ is_full known peer → found ≡ b → is_full now.known peer ≡ b
+full_now peer found b view is looked so =
+    ap (λ (k : WriterKept). is_full k.known peer) (sym view)
+    ∙ (ap (λ (ks : List TopicName). is_full ks peer) (sym is) ∙ (sym looked ∙ so))
+
 -- by who is known, and matched, and whether there is room
 pub meeting_by : (kept now : WriterKept) (reader : Endpoint) (found : Option TopicName) (b full : Bool) → kept ≡ now
     → known_as kept.known reader ≡ found → is_named kept.matched reader ≡ b → is_full kept.known reader.peer ≡ full

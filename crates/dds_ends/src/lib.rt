@@ -36,7 +36,7 @@ pub use answering::{Room, is_from};
 pub use expiring::{counts_deaths, expire_all};
 pub use marks::{Marks, ReaderMark, WriterMark, mark_readers, mark_writers};
 pub use matched_rows::{row_among, writer_row_among};
-pub use matching::ReaderName;
+pub use matching::{ReaderName, WriterName};
 pub use output::{answered, reply_to_access, unmoved};
 pub use reader_end::ReaderEnd;
 pub use reader_told::{Ids, Ready, ReadyChange, Telling, Told, ids_of};

@@ -17,7 +17,7 @@ ghost use Rattle.dds_ends.specs.Standing.{IsFirstRow, ReaderStands};
 use crate::matched_rows::writer_row_among;
 use crate::matching::WriterName;
 use crate::reader_end::ReaderEnd;
-use dds_base::{Code, Handle, MatchedWriter, Moment};
+use dds_base::{Code, Endpoint, Handle, MatchedWriter, Moment};
 use rtps_reader::Attachment;
 
 /// The most writers that a reader knows: as many as a status counts.
@@ -85,6 +85,29 @@ impl ReaderEnd {
         Ok(())
     }
 
+    /// Why the reader may not be matched from now on with this writer, which it may not know; `None` where want of memory
+    /// alone may keep it from that.
+    ///
+    /// `PreconditionNotMet` where it is matched with that one, `OutOfResources` where it does not know that one and knows
+    /// 2^31 - 1.
+    ///
+    /// RTPS 2.5, 8.4.10.3 (matched_writer_add).
+    pub fn meeting_cause(&self, writer: Endpoint) -> Option<Code>
+        ensures cause { RefusesWriterSo self.now writer (λ refusal. refusal ≡ result) }
+    {
+        let Some(row) = writer_row_among(self.writers.as_slice(), writer) else {
+            if MAX_KNOWN <= self.writers.len() {
+                return Some(Code::OutOfResources);
+            }
+            return None;
+        };
+        let is_matched = self.is_attached(row);
+        if is_matched {
+            return Some(Code::PreconditionNotMet);
+        }
+        None
+    }
+
     /// The reader is matched with this writer from now on, which it may not know; gives the row. One that it knows keeps
     /// its row, its name and what was announced of it; one that it does not know has the last row.
     ///
@@ -97,6 +120,7 @@ impl ReaderEnd {
     /// RTPS 2.5, 8.4.10.3 (matched_writer_add).
     pub fn meet(&mut self, name: WriterName, as_writer: MatchedWriter) -> Result<usize, Code>
         ensures ok { IfOk result (λ row. MeetsWriter self.old name as_writer row self.new) }
+        ensures few { IfOk result (λ row. row < max_known) }
         ensures accepted { OnOk result
             (RefusesWriterSo self.old name.writer (λ refusal. refusal ≡ None)) }
         ensures refused { IfErr result

@@ -1,6 +1,6 @@
 //! What a reader of the peer is told by its writers, and takes up.
 //!
-//! RTPS 2.5, 8.4.10 (StatefulReader), 8.4.11, 8.4.12.
+//! RTPS 2.5, 8.4.10 (StatefulReader), 8.4.12.
 
 ghost use Rattle.std.specs.Prelude.{◌≡◌, ◌<◌, ◌≤◌, [], length, nat_le, slice_get, None, Some, true, false, if◌then◌else◌, IfSome, IfOk, IfErr, OnOk, IsOk, Ok, MatchOption};
 ghost use Rattle.dds_base.specs.declared.code.Code.TheVariants.{Memory};

@@ -117,6 +117,29 @@ impl WriterEnd {
         self.attach(known, greeted)
     }
 
+    /// Why it may not be matched from now on with this reader, which it may not know; `None` where want of memory alone may
+    /// keep it from that.
+    ///
+    /// `PreconditionNotMet` where it is matched with the reader, `OutOfResources` where it does not know it, and knows 16
+    /// others of its participant, or 2^31 - 1 in all.
+    ///
+    /// RTPS 2.5, 8.4.7.4 (StatefulWriter, matched_reader_add).
+    pub fn meeting_cause(&self, reader: Endpoint) -> Option<Code>
+        ensures cause { RefusesSo meeting_refusal self.now reader (λ refusal. refusal ≡ result) }
+    {
+        let is_matched = self.is_matched(reader);
+        if is_matched {
+            return Some(Code::PreconditionNotMet);
+        }
+        if let Some(_) = self.knows(reader) {
+            return None;
+        }
+        if is_full(self.known.as_slice(), reader.peer) {
+            return Some(Code::OutOfResources);
+        }
+        None
+    }
+
     /// It is told that it is matched from now on with a reader that it may not know: the reader of this name, of its
     /// topic, which is reliable or not. It is told of it as by `join`, and knows it from now on. Of a reader that it
     /// knows it keeps the name, and whether that one is reliable.

@@ -1,22 +1,14 @@
-use Rattle.std.proofs.Common.{◌≡◌, ◌∙◌, ℕ, ◌<◌, Bool, true, false, List, ap, arith, length, rules, subst}
+use Rattle.std.proofs.Common.{ℕ, ◌<◌, ◌≤◌, Bool, true, false, List, ap, arith, length, rules, subst}
 use Rattle.dds_base.specs.declared.code.Code.TheVariants.{OutOfResources, PreconditionNotMet}
 use Rattle.dds_base.specs.declared.endpoint.Endpoint.{Endpoint}
+use Rattle.dds_machine.specs.Matching.{max_known}
 use Rattle.dds_ends.specs.declared.matching.WriterName.{WriterName}
 use Rattle.dds_ends.specs.Kept.{ReaderKept}
 use Rattle.dds_ends.specs.Standing.{HasNoRow, IsFirstRow}
 use Rattle.dds_ends.proofs.Lists.{get-within}
-use Rattle.dds_ends.proofs.MeetingWriters.{full_refusal, knows_refusal, meets_known, meets_new, new_accepted, refused_for, refused_memory}
+use Rattle.dds_ends.proofs.MeetingWriters.{as_many, full_refusal, knows_refusal, meets_known, meets_new, new_accepted, on_rows, refused_for, refused_memory}
 use Rattle.dds_ends.proofs.Parting.{IsMatchedSo}
 use Rattle.dds_ends.proofs.reader_end.ReaderEnd.meet.Goals as goal
-
--- what is so of the rows that were looked through is so of those of the reader
-on_rows : {kept now : ReaderKept} {names : List WriterName} (P : List WriterName → Type 0) → kept ≡ now
-    → names ≡ kept.writers → P names → P now.writers
-on_rows P view is h = subst P (is ∙ ap (λ (k : ReaderKept). k.writers) view) h
-
-as_many : {kept now : ReaderKept} {len row : ℕ} → kept ≡ now → len ≡ length kept.writers → row ≡ len
-    → row ≡ length now.writers
-as_many view len is = is ∙ (len ∙ ap (λ (k : ReaderKept). length k.writers) view)
 
 -- ---- one that it does not know
 
@@ -84,6 +76,16 @@ returns-clause-ok c =
     (on_rows (λ ns. IsFirstRow ns c.args.name.writer c.in-Some.row) c.self.view_is c.as_slice.ensures.value
     c.in-Some.ensures)
     c.attach.ensures.attaches
+
+pub returns-clause-few : goal.returns-clause-few
+returns-clause-few c =
+    let many : length c.self.inside.writers.items ≤ max_known = c.self.invariant.many in
+    let same = ap (λ (k : ReaderKept). length k.writers) c.self.view_is in
+    let lt =
+    within c.args.self.now.writers c.args.name.writer c.in-Some.row
+    (on_rows (λ ns. IsFirstRow ns c.args.name.writer c.in-Some.row) c.self.view_is c.as_slice.ensures.value
+    c.in-Some.ensures) in
+    omega (arith, many, same, lt)
 
 pub returns-clause-accepted : goal.returns-clause-accepted
 returns-clause-accepted c =

@@ -1,19 +1,10 @@
-use Rattle.std.proofs.Common.{◌≡◌, ℕ, Bool, true, false, List, Some, None, refl, ap, sym, ◌∙◌}
+use Rattle.std.proofs.Common.{true, false, Some, None, refl, sym, ◌∙◌}
 use Rattle.dds_base.specs.declared.code.Code.TheVariants.{OutOfResources, PreconditionNotMet}
-use Rattle.dds_ends.specs.declared.matching.TopicName.{TopicName}
-use Rattle.dds_ends.specs.Kept.{WriterKept}
-use Rattle.dds_ends.specs.Meeting.{is_full, meeting_refusal}
-use Rattle.dds_ends.proofs.Meetings.{may_join, meeting_by, meets_known, meets_new}
+use Rattle.dds_ends.specs.Meeting.{meeting_refusal}
+use Rattle.dds_ends.proofs.Meetings.{full_now, may_join, meeting_by, meets_known, meets_new}
 use Rattle.dds_ends.proofs.Refusing.{for_cause, memory_refused}
 use Rattle.dds_ends.proofs.Results.{ok_from, on_ok}
 use Rattle.dds_ends.proofs.writer_end.WriterEnd.meet.Goals as goal
-
--- what was found of those that were looked through is so of those that the writer knows
-full_now : {kept now : WriterKept} {known : List TopicName} (peer : ℕ) (found b : Bool) → kept ≡ now
-    → known ≡ kept.known → found ≡ is_full known peer → found ≡ b → is_full now.known peer ≡ b
-full_now peer found b view is looked so =
-    ap (λ (k : WriterKept). is_full k.known peer) (sym view)
-    ∙ (ap (λ (ks : List TopicName). is_full ks peer) (sym is) ∙ (sym looked ∙ so))
 
 pub returns-then-is_matched-clause-refused : goal.returns-then-is_matched-clause-refused
 returns-then-is_matched-clause-refused c = λ w answered s.
