@@ -34,7 +34,7 @@ use Rattle.dds_machine.specs.Watching.{Tests}
 use Rattle.dds_ends.specs.Kept.{WriterKept, ReaderKept}
 use Rattle.dds_core.specs.Kept.{PeerKept}
 use Rattle.dds_ends.specs.Identity.{WriterIdentity, ReaderIdentity, reader_identity, writer_identity}
-use Rattle.dds_core.specs.Identity.{identity_of, IsPeerOf}
+use Rattle.dds_core.specs.Identity.{Identity, identity_of, IsPeerOf, KnowsNames}
 use Rattle.dds_ends.specs.Expiring.{AllExpire, HasPastCounting}
 use Rattle.dds_core.specs.Making.{IsMade, IsNotMade, entered}
 use Rattle.dds_core.specs.Sending.{SendsFor, SendsNothing}
@@ -101,6 +101,9 @@ pub knows_still : (peer : Peer) (c : Call) (reply : Reply) (e : Effect) → effe
 knows_still peer (call.MatchReader w reader greeted) Done e is none =
     absurd (let bad = ap is_telling is ∙ none in cc)
 knows_still peer (call.MatchReader w reader greeted) reply e is none = refl
+knows_still peer (call.MeetReader w far greeted) Done e is none =
+    absurd (let bad = ap is_telling is ∙ none in cc)
+knows_still peer (call.MeetReader w far greeted) reply e is none = refl
 knows_still peer other reply e is none = refl
 
 -- a call that changes nothing
@@ -384,17 +387,15 @@ good_moment kept roster peer s now on early =
     neither false b h k = k
     neither true b h k = absurd cc
 
--- the names stay, where those of writers and of readers do
-same_peer : (kept : PeerKept) (roster : Roster) (number : ℕ) (writers : List WriterKept) (readers : List ReaderKept)
+-- what is so of the names stays so, where those of writers and of readers do
+same_peer : (kept : PeerKept) (writers : List WriterKept) (readers : List ReaderKept) (Is : Identity → Type 0)
     → map writer_identity writers ≡ map writer_identity kept.writers
-    → map reader_identity readers ≡ map reader_identity kept.readers
-    → IsPeerOf roster number (identity_of kept)
-    → IsPeerOf roster number
-    (record { prefix = kept.prefix; writers = map writer_identity writers; readers = map reader_identity readers })
-same_peer kept roster number writers readers ws rs h =
-    subst (λ (is : List ReaderIdentity). IsPeerOf roster number
+    → map reader_identity readers ≡ map reader_identity kept.readers → Is (identity_of kept)
+    → Is (record { prefix = kept.prefix; writers = map writer_identity writers; readers = map reader_identity readers })
+same_peer kept writers readers Is ws rs h =
+    subst (λ (is : List ReaderIdentity). Is
     (record { prefix = kept.prefix; writers = map writer_identity writers; readers = is })) (sym rs)
-    (subst (λ (is : List WriterIdentity). IsPeerOf roster number
+    (subst (λ (is : List WriterIdentity). Is
     (record { prefix = kept.prefix; writers = is; readers = map reader_identity kept.readers })) (sym ws) h)
 
 pub ticks : (kept : PeerKept) (writers : List WriterKept) (readers : List ReaderKept) (roster : Roster) (peer : Peer)
@@ -422,8 +423,11 @@ ticks kept writers readers roster peer s now on early all expired output done be
       },
       record {
         is_peer =
-            same_peer kept roster peer.number writers readers (same_names now kept.writers writers all)
-            (expired_names now kept.readers readers expired) s.is_peer;
+            same_peer kept writers readers (λ x. IsPeerOf roster peer.number x)
+            (same_names now kept.writers writers all) (expired_names now kept.readers readers expired) s.is_peer;
+        knows =
+            same_peer kept writers readers (λ x. KnowsNames roster peer.number x kept.names)
+            (same_names now kept.writers writers all) (expired_names now kept.readers readers expired) s.knows;
         moment = refl;
         early = early;
         names = s.names;

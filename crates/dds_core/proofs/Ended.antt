@@ -17,6 +17,7 @@ use Rattle.dds_protocol.specs.declared.event.Event.{Event}
 use Rattle.dds_protocol.specs.declared.event.Output.{Output}
 use Rattle.dds_machine.specs.Noticing.{at_end, each_told, reader_told, writer_told}
 use Rattle.dds_protocol.specs.Noticing.{peer_at_end}
+use Rattle.dds_machine.specs.Matching.{is_known}
 use Rattle.dds_machine.specs.Numbered.{HasNumber, numbered}
 use Rattle.dds_machine.specs.Part.{Part, WriterProxy, heard_of, place_of as reader_place}
 use Rattle.dds_protocol.specs.Opening.{opening_peers}
@@ -33,6 +34,7 @@ use Rattle.dds_core.specs.Listening.{Adds, CoreKept, RefusesFilter, RefusesListe
 use Rattle.dds_core.specs.Noticing.{AreMarksOf, MarksPeer, Tells}
 use Rattle.dds_core.specs.Opening.{opening_peer}
 use Rattle.dds_core.specs.Ruling.{IsSound}
+use Rattle.dds_core.specs.Somewhere.{Somewhere}
 use Rattle.dds_ends.proofs.Lists.{past_end}
 use Rattle.dds_core.proofs.Notified.{listeners_apart, tells_as, tells_then}
 
@@ -74,6 +76,9 @@ sound_at_end roster before peer sound =
       heard =
           λ w r count h. sound.heard w r count
           (ap (λ (xs : List (List WriterProxy)). heard_of (numbered xs r []) w) (sym rows) ∙ h);
+      then =
+          λ d r w among h. ap (λ (xs : List (List WriterProxy)). is_known (numbered xs r []) w) rows
+          ∙ sound.then d r w among h;
     }
 
 -- ---- entities
@@ -105,14 +110,38 @@ opens_sound config roster (suc i) = opens_known config roster i (opening_peer co
 -- ---- steps
 
 module _ {F L : Type 0} (notices : L → List Notice) (capacity : L → ℕ) (becomes : L → Notice → L → Type 0) where
+  -- the listeners are those of the same part
+  meets_listening : (old : CoreKept F L) (ev : Event) (output : Output)
+      → ((roster : Roster) (peer : Peer) → FilteredStandsFor old.filtered roster peer → IsSound roster peer
+      → Somewhere (FilteredStandsFor old.filtered) peer ev output.reply)
+      → (given : ByEntity L) (roster : Roster) (peer : Peer)
+      → StandsFor notices capacity becomes given old roster peer → IsSound roster peer
+      → Somewhere (StandsFor notices capacity becomes given old) peer ev output.reply
+  meets_listening old ev output h given roster peer s sound =
+      let m = h roster peer s.stands sound in
+      record {
+        roster = m.roster;
+        alike = m.alike;
+        number = m.number;
+        part = m.part;
+        stands = record {
+          stands = m.stands;
+          listeners =
+              subst (λ (p : Part). SlotsStandFor notices capacity becomes given old.listeners p.dds.listeners)
+              (sym m.part) s.listeners;
+        };
+        sound = m.sound;
+        has = m.has;
+      }
+
   -- no listener is set
   pub steps_untold : (tests : Tests) (old : CoreKept F L) (ev : Event) (output : Output) (new : FilteredKept F)
       → FilteredSteps tests old.filtered ev output new
       → is_any old.listeners ≡ false → Steps notices capacity becomes tests old ev output
       (record { filtered = new; listeners = old.listeners })
   steps_untold tests old ev output new h none = record {
-    step = λ given roster peer s sound.
-        let r = h.step roster peer s.stands sound in
+    step = λ given roster peer s sound met.
+        let r = h.step roster peer s.stands sound met in
         let after : Peer = r.0 in
         let kept : after.part.dds.listeners ≡ peer.part.dds.listeners =
         keeps_listeners roster tests peer ev output after r.1 in
@@ -130,6 +159,7 @@ module _ {F L : Type 0} (notices : L → List Notice) (capacity : L → ℕ) (be
               (record after { part = p })) (sym same) stands,
           sound_at_end roster peer after r.3,
         );
+    meets = meets_listening old ev output h.meets;
     filters = h.filters;
   }
 
@@ -142,8 +172,8 @@ module _ {F L : Type 0} (notices : L → List Notice) (capacity : L → ℕ) (be
       → new.filters ≡ mid.filters → Steps notices capacity becomes tests old ev output
       (record { filtered = new; listeners = after })
   steps_told tests old ev output mid new after marks h marked tells same = record {
-    step = λ given roster peer s sound.
-        let r = h.step roster peer s.stands sound in
+    step = λ given roster peer s sound met.
+        let r = h.step roster peer s.stands sound met in
         let stepped : Peer = r.0 in
         let kept : stepped.part.dds.listeners ≡ peer.part.dds.listeners =
         keeps_listeners roster tests peer ev output stepped r.1 in
@@ -164,6 +194,7 @@ module _ {F L : Type 0} (notices : L → List Notice) (capacity : L → ℕ) (be
           },
           sound_at_end roster peer stepped r.3,
         );
+    meets = meets_listening old ev output h.meets;
     filters = same ∙ h.filters;
   }
 
@@ -237,6 +268,7 @@ module _ {F L : Type 0} (notices : L → List Notice) (capacity : L → ℕ) (be
             claimed = sound.claimed;
             newest = sound.newest;
             heard = sound.heard;
+            then = sound.then;
           },
         );
   }

@@ -17,7 +17,7 @@ use Rattle.rtps_writer.specs.WriterState.{WriterState}
 use Rattle.dds_ends.specs.Kept.{WriterKept, ReaderKept}
 use Rattle.dds_core.specs.Kept.{PeerKept}
 use Rattle.dds_ends.specs.Identity.{WriterIdentity, ReaderIdentity, writer_identity, reader_identity}
-use Rattle.dds_core.specs.Identity.{Identity, identity_of, IsPeerOf}
+use Rattle.dds_core.specs.Identity.{Identity, IsPeerOf, KnowsNames, identity_of}
 use Rattle.dds_core.specs.Receiving.{with_state}
 use Rattle.dds_ends.specs.Standing.{WriterStands, WritersStand, ReaderStands, state_of}
 use Rattle.dds_core.specs.Standing.{StandsFor}
@@ -94,6 +94,7 @@ writer_stands_on k w old new same s = record {
 pub own_writer_put : (roster : Roster) (peer : Peer) (kept : PeerKept) → StandsFor kept roster peer
     → (i : ℕ) (k k' : WriterKept) → slice_get kept.writers i ≡ Some k
     → IsPeerOf roster peer.number (identity_of (with_writer kept i k'))
+    → KnowsNames roster peer.number (identity_of (with_writer kept i k')) kept.names
     → (w : Writer) (answered : ℕ → Endpoint → Contact)
     → WriterStands k' w (answered (suc i))
     → ((j : ℕ) → (j ≡ i → ⊥) → (r : Endpoint) → answered (suc j) r ≡ peer.known.answered (suc j) r)
@@ -101,10 +102,11 @@ pub own_writer_put : (roster : Roster) (peer : Peer) (kept : PeerKept) → Stand
     → StandsFor (with_writer kept i k') roster
     (with_state peer
     (record { part = at_writer peer.part (suc i) w; known = record peer.known { answered = answered } }))
-own_writer_put roster peer kept s i k k' at is_peer w answered stands others tellable =
+own_writer_put roster peer kept s i k k' at is_peer knows w answered stands others tellable =
     let ws : List Writer = peer.part.rtps.writers in
     record {
       is_peer = is_peer;
+      knows = knows;
       moment = s.moment;
       early = s.early;
       names = s.names;
@@ -134,6 +136,8 @@ pub writer_put : (roster : Roster) (peer : Peer) (kept : PeerKept) → StandsFor
 writer_put roster peer kept s i k k' at same w answered stands others tellable =
     own_writer_put roster peer kept s i k k' at
     (subst (λ (x : Identity). IsPeerOf roster peer.number x) (sym (same_with_writer kept i k k' at same)) s.is_peer)
+    (subst (λ (x : Identity). KnowsNames roster peer.number x kept.names)
+    (sym (same_with_writer kept i k k' at same)) s.knows)
     w answered stands others tellable
 
 -- own writer n stepped
@@ -169,21 +173,22 @@ reader_stands_on k proxies r old new same s = record {
   here_is = s.here_is;
 }
 
--- own reader n stepped, and knows what it knows now
-pub own_reader_stepped : (kept : PeerKept) (i : ℕ) (k k' : ReaderKept) (proxies : List WriterProxy) (r : Reader)
-    (known : Known) (roster : Roster) (peer : Peer) → StandsFor kept roster peer → slice_get kept.readers i ≡ Some k
-    → reader_identity k' ≡ reader_identity k → known.answered ≡ peer.known.answered
+-- own reader n has become another one of the roster, and knows what it knows now
+pub own_reader_put : (kept : PeerKept) (i : ℕ) (k' : ReaderKept) (proxies : List WriterProxy) (r : Reader)
+    (known : Known) (roster : Roster) (peer : Peer) → StandsFor kept roster peer
+    → IsPeerOf roster peer.number (identity_of (with_reader kept i k'))
+    → KnowsNames roster peer.number (identity_of (with_reader kept i k')) kept.names
+    → known.answered ≡ peer.known.answered
     → ((w : Endpoint) (n : ℕ) → (n ≡ suc i → ⊥) → known.tracked w n ≡ peer.known.tracked w n)
     → ReaderStands k' proxies r (λ w. known.tracked w (suc i))
     → StandsFor (with_reader kept i k') roster
     (record peer { part = with_read peer.part (suc i) proxies r; known = known })
-own_reader_stepped kept i k k' proxies r known roster peer s at same counts others stands =
+own_reader_put kept i k' proxies r known roster peer s is_peer knows counts others stands =
     let ps : List (List WriterProxy) = peer.part.rtps.readers in
     let rs : List Reader = peer.part.dds.readers in
     record {
-      is_peer =
-          subst (λ (x : Identity). IsPeerOf roster peer.number x)
-          (sym (same_with_reader kept i k k' at same)) s.is_peer;
+      is_peer = is_peer;
+      knows = knows;
       moment = s.moment;
       early = s.early;
       names = s.names;
@@ -205,6 +210,21 @@ own_reader_stepped kept i k k' proxies r known roster peer s at same counts othe
       };
       tellable = s.tellable;
     }
+
+-- own reader n stepped, and knows what it knows now
+pub own_reader_stepped : (kept : PeerKept) (i : ℕ) (k k' : ReaderKept) (proxies : List WriterProxy) (r : Reader)
+    (known : Known) (roster : Roster) (peer : Peer) → StandsFor kept roster peer → slice_get kept.readers i ≡ Some k
+    → reader_identity k' ≡ reader_identity k → known.answered ≡ peer.known.answered
+    → ((w : Endpoint) (n : ℕ) → (n ≡ suc i → ⊥) → known.tracked w n ≡ peer.known.tracked w n)
+    → ReaderStands k' proxies r (λ w. known.tracked w (suc i))
+    → StandsFor (with_reader kept i k') roster
+    (record peer { part = with_read peer.part (suc i) proxies r; known = known })
+own_reader_stepped kept i k k' proxies r known roster peer s at same counts others stands =
+    own_reader_put kept i k' proxies r known roster peer s
+    (subst (λ (x : Identity). IsPeerOf roster peer.number x) (sym (same_with_reader kept i k k' at same)) s.is_peer)
+    (subst (λ (x : Identity). KnowsNames roster peer.number x kept.names)
+    (sym (same_with_reader kept i k k' at same)) s.knows)
+    counts others stands
 
 -- setting what is there changes nothing
 set_same : {X : Type 0} (xs : List X) (i : ℕ) (d : X) → set xs i (get_or xs i d) ≡ xs

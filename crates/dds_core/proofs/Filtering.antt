@@ -10,6 +10,7 @@ use Rattle.dds_conditions.specs.Watched.{Watched, filter_refusal, with_filter}
 use Rattle.dds_protocol.specs.declared.event.Event.{Event}
 use Rattle.dds_protocol.specs.declared.event.Output.{Output}
 use Rattle.dds_protocol.specs.Filters.{peer_with_filter}
+use Rattle.dds_machine.specs.Part.{Part}
 use Rattle.dds_machine.specs.Watching.{Tests}
 use Rattle.dds_protocol.proofs.FiltersKept.{keeps_filters, opens_no_filters}
 use Rattle.dds_core.specs.Kept.{PeerKept}
@@ -32,8 +33,8 @@ pub steps : {F : Type 0} (tests : Tests) (old : FilteredKept F) (ev : Event) (ou
     → SoundStepsBy tests old.peer ev output new
     → Steps tests old ev output (record { peer = new; filters = old.filters })
 steps tests old ev output new h = record {
-  step = λ roster peer s sound.
-      let r = h roster peer s.stands sound in (
+  step = λ roster peer s sound met.
+      let r = h.step roster peer s.stands sound met in (
         r.0,
         r.1,
         record {
@@ -44,6 +45,20 @@ steps tests old ev output new h = record {
         r.3,
         r.4,
       );
+  meets = λ roster peer s sound.
+      let m = h.meets roster peer s.stands sound in
+      record {
+        roster = m.roster;
+        alike = m.alike;
+        number = m.number;
+        part = m.part;
+        stands = record {
+          stands = m.stands;
+          filters = ap (λ (p : Part). p.dds.watch.filters) m.part ∙ s.filters;
+        };
+        sound = m.sound;
+        has = m.has;
+      };
   filters = refl;
 }
 
@@ -78,6 +93,7 @@ adds old filter number new filters left is kept more = record {
           claimed = sound.claimed;
           newest = sound.newest;
           heard = sound.heard;
+          then = sound.then;
         },
       );
 }

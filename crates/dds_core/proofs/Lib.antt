@@ -5,6 +5,8 @@ pub mod CallSteps
 pub mod AssertSteps
 pub mod StrengthSteps
 pub mod ReaderSteps
+pub mod MetReaders
+pub mod MetWriters
 pub mod MatchedWriters
 pub mod ChangesDue
 pub mod Ends
@@ -42,6 +44,11 @@ pub mod Filtering
 pub mod Notified
 pub mod WriterNotified
 pub mod Ended
+pub mod Within
+pub mod NamesOpened
+pub mod WithEnds
+pub mod Agreeing
+pub mod Elsewhere
 pub mod InRosters
 pub mod Counted
 pub mod ToNobody

@@ -28,7 +28,7 @@ use Rattle.dds_ends.specs.declared.matching.WriterName.{WriterName}
 use Rattle.dds_ends.specs.EndNames.{writer_name, writer_names}
 use Rattle.dds_ends.specs.Identity.{ReaderIdentity, WriterIdentity, writer_identity, reader_identity, configured_writer, configured_reader, IsReaderOf, IsWriterOf}
 use Rattle.dds_ends.specs.MatchedEnds.{AreKnownWriters, IsWriterNamed}
-use Rattle.dds_core.specs.Identity.{AreRowsOnce, IsPeerOf}
+use Rattle.dds_core.specs.Identity.{AreAllNamed, AreRowsOnce, IsPeerOf}
 use Rattle.dds_core.specs.Kept.{PeerKept}
 use Rattle.dds_core.specs.Opening.{opening_peer}
 use Rattle.dds_ends.specs.OpeningEnds.{OpensWriter, OpensReader}
@@ -42,6 +42,8 @@ use Rattle.dds_ends.proofs.Once.{writers_once}
 use Rattle.dds_ends.proofs.Alike.{last-cases, partner}
 use Rattle.dds_core.proofs.Limited.{limited}
 use Rattle.dds_core.proofs.Tellable.{tellable_opening}
+use Rattle.dds_core.proofs.Within.{within_itself}
+use Rattle.dds_core.proofs.NamesOpened.{all_are_named, all_named}
 
 -- ---- one element more
 
@@ -208,8 +210,6 @@ opened_reader_is config reader r own = record {
 }
 
 -- the names of all ends
-abbrev pub all_named : List PeerConfig → Names
-all_named peers = record { writers = all_writers 1 peers; readers = all_readers 1 peers }
 
 -- a peer of this configuration that keeps these
 abbrev pub opened_as : PeerConfig → ℕ → List WriterKept → List ReaderKept → Names → Watched → PeerKept
@@ -289,6 +289,12 @@ stands_begun : (config : Config) (index moment : ℕ) (own : PeerConfig) (writer
     (begun config.peers own (1 + index))
 stands_begun config index moment own writers readers names watch checked at begins named watches ws rs = record {
   is_peer = peer_begun config index own at writers readers (configs_are_good config checked) ws rs;
+  knows = record {
+    known = roster_of config;
+    is_peer = peer_begun config index own at writers readers (configs_are_good config checked) ws rs;
+    is_within = within_itself (roster_of config);
+    named = subst (λ (ns : Names). AreAllNamed (roster_of config) ns) (sym named) (all_are_named config);
+  };
   moment = sym begins;
   early = subst (λ (m : ℕ). m < 2 ^ 63) (sym begins) (omega arith);
   writers = writers_stand config.peers own.writers writers ws;

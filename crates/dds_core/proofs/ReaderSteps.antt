@@ -17,14 +17,14 @@ use Rattle.dds_machine.specs.Matching.{joined, knows_reliable, left, publication
 use Rattle.dds_machine.specs.Part.{Writer, at_writer, own_writer, same_endpoint, writer_changes}
 use Rattle.dds_machine.specs.Refusals.{writer_refusal}
 use Rattle.dds_protocol.specs.declared.event.Event.TheVariants as event
-use Rattle.dds_protocol.specs.Peer.{Peer}
+use Rattle.dds_protocol.specs.Peer.{Peer, known_once_told}
 use Rattle.dds_protocol.specs.Contact.{Contact}
-use Rattle.dds_protocol.specs.Protocol.{Known, with_answered}
+use Rattle.dds_protocol.specs.Protocol.{Known}
 use Rattle.dds_ends.specs.Coming.{Joins, Leaves, LooksAtMatches, RefusesSo, joining_refusal, leaving_refusal, matched_anew}
 use Rattle.dds_ends.specs.declared.matching.TopicName.{TopicName}
 use Rattle.dds_ends.specs.Identity.{IsWriterOf, WriterIdentity, writer_identity}
 use Rattle.dds_ends.specs.MatchedEnds.{AreKnownReaders}
-use Rattle.dds_core.specs.Identity.{IsPeerOf, identity_of}
+use Rattle.dds_core.specs.Identity.{IsPeerOf, KnowsNames, identity_of}
 use Rattle.dds_ends.specs.Kept.{WriterKept}
 use Rattle.dds_core.specs.Kept.{PeerKept}
 use Rattle.dds_ends.specs.Standing.{WriterStands}
@@ -33,6 +33,7 @@ use Rattle.dds_core.proofs.CallSteps.{Follows, answered_as, number_is, refused_c
 use Rattle.dds_core.proofs.Ends.{own_writer_put, unchanged_with, with_writer, writer_put, writer_stands_on}
 use Rattle.dds_ends.proofs.Lists.{get-map, map-get}
 use Rattle.dds_core.proofs.Taking.{silent}
+use Rattle.dds_core.proofs.Within.{still_known}
 use Rattle.dds_core.proofs.Tellable.{tellable_put}
 
 -- ---- who the writers are
@@ -47,25 +48,23 @@ put_or_there (a ∷ xs) (suc i) zero x y at = inr at
 put_or_there (a ∷ xs) (suc i) (suc j) x y at =
     ⊎_elim (λ f. inl (ap suc f.0, f.1)) (λ f. inr f) (put_or_there xs i j x y at)
 
--- what is so of each writer is so with another one in the place of one, of which it is so
-each_of : (kept : PeerKept) (i : ℕ) (k' : WriterKept) (Is : ℕ → WriterIdentity → Type 0) → Is i (writer_identity k')
-    → ((j : ℕ) (x : WriterIdentity) → slice_get (map writer_identity kept.writers) j ≡ Some x → Is j x)
-    → (j : ℕ) (x : WriterIdentity) → slice_get (map writer_identity (set kept.writers i k')) j ≡ Some x → Is j x
-each_of kept i k' Is here each j x at_x =
-    let f = get-map writer_identity (set kept.writers i k') j x at_x in
+-- what is so of each end is so with another one in the place of one, of which it is so
+pub each_of : {K X : Type 0} (of : K → X) (ks : List K) (i : ℕ) (k : K) (Is : ℕ → X → Type 0) → Is i (of k)
+    → ((j : ℕ) (x : X) → slice_get (map of ks) j ≡ Some x → Is j x)
+    → (j : ℕ) (x : X) → slice_get (map of (set ks i k)) j ≡ Some x → Is j x
+each_of {X = X} of ks i k Is here each j x at_x =
+    let f = get-map of (set ks i k) j x at_x in
     ⊎_elim
-    (λ it. subst (λ (n : ℕ). Is n x) it.0
-    (subst (λ (y : WriterIdentity). Is i y) (ap writer_identity it.1 ∙ f.2) here))
-    (λ there. each j x
-    (map-get writer_identity kept.writers j f.0 there ∙ ap (λ (y : WriterIdentity). Some y) f.2))
-    (put_or_there kept.writers i j k' f.0 f.1)
+    (λ it. subst (λ (n : ℕ). Is n x) it.0 (subst (λ (y : X). Is i y) (ap of it.1 ∙ f.2) here))
+    (λ there. each j x (map-get of ks j f.0 there ∙ ap (λ (y : X). Some y) f.2))
+    (put_or_there ks i j k f.0 f.1)
 
 -- the peer's writer of this index, by its number
-abbrev writer_end : ℕ → ℕ → Endpoint
+abbrev pub writer_end : ℕ → ℕ → Endpoint
 writer_end number i = record { peer = number; number = i + 1 }
 
 -- another writer of the roster in the place of one, whose values may be as long
-peer_of_writer : (kept : PeerKept) (i : ℕ) (k k' : WriterKept) (roster : Roster) (number : ℕ)
+pub peer_of_writer : (kept : PeerKept) (i : ℕ) (k k' : WriterKept) (roster : Roster) (number : ℕ)
     → slice_get kept.writers i ≡ Some k → k'.max_value ≡ k.max_value
     → (IsWriterOf roster (writer_end number i) (writer_identity k)
     → IsWriterOf roster (writer_end number i) (writer_identity k'))
@@ -76,9 +75,9 @@ peer_of_writer kept i k k' roster number at long still is =
     record {
       is_roster = is.is_roster;
       prefix = is.prefix;
-      writers = each_of kept i k' (λ j x. IsWriterOf roster (writer_end number j) x)
+      writers = each_of writer_identity kept.writers i k' (λ j x. IsWriterOf roster (writer_end number j) x)
           (still (is.writers i (writer_identity k) was)) is.writers;
-      limited = each_of kept i k' (λ j x. x.max_value ≤ greatest_value)
+      limited = each_of writer_identity kept.writers i k' (λ j x. x.max_value ≤ greatest_value)
           (subst (λ (most : ℕ). most ≤ greatest_value) (sym long) (is.limited i (writer_identity k) was)) is.limited;
       readers = is.readers;
       once = is.once;
@@ -87,19 +86,59 @@ peer_of_writer kept i k k' roster number at long still is =
 -- ---- the end of that number
 
 -- a peer with another writer of this index, which is one of the roster as it was
-told : (kept : PeerKept) (i : ℕ) (k k' : WriterKept) (roster : Roster) (peer : Peer) → StandsFor kept roster peer
+pub writer_told : (kept : PeerKept) (i : ℕ) (k k' : WriterKept) (roster : Roster) (peer : Peer) → StandsFor kept roster peer
     → slice_get kept.writers i ≡ Some k → k'.max_value ≡ k.max_value
     → (IsWriterOf roster (writer_end peer.number i) (writer_identity k)
     → IsWriterOf roster (writer_end peer.number i) (writer_identity k'))
+    → KnowsNames roster peer.number (identity_of (with_writer kept i k')) kept.names
     → (w : Writer) (answered : ℕ → Endpoint → Contact) → WriterStands k' w (answered (suc i))
     → ((j : ℕ) → (j ≡ i → ⊥) → (r : Endpoint) → answered (suc j) r ≡ peer.known.answered (suc j) r)
     → writer_changes w ≡ writer_changes (own_writer peer.part (suc i))
     → StandsFor (with_writer kept i k') roster
     (record peer { part = at_writer peer.part (suc i) w; known = record peer.known { answered = answered } })
-told kept i k k' roster peer s at long still w answered stands others same =
+writer_told kept i k k' roster peer s at long still knows w answered stands others same =
     own_writer_put roster peer kept s i k k' at
-    (peer_of_writer kept i k k' roster peer.number at long still s.is_peer) w
+    (peer_of_writer kept i k k' roster peer.number at long still s.is_peer) knows w
     answered stands others (tellable_put peer.part (suc i) w s.tellable same)
+
+-- the same of one that is so in each roster
+told_everywhere : (kept : PeerKept) (i : ℕ) (k k' : WriterKept) (roster : Roster) (peer : Peer)
+    → StandsFor kept roster peer → slice_get kept.writers i ≡ Some k → k'.max_value ≡ k.max_value
+    → ((r : Roster) → IsWriterOf r (writer_end peer.number i) (writer_identity k)
+    → IsWriterOf r (writer_end peer.number i) (writer_identity k'))
+    → (w : Writer) (answered : ℕ → Endpoint → Contact) → WriterStands k' w (answered (suc i))
+    → ((j : ℕ) → (j ≡ i → ⊥) → (r : Endpoint) → answered (suc j) r ≡ peer.known.answered (suc j) r)
+    → writer_changes w ≡ writer_changes (own_writer peer.part (suc i))
+    → StandsFor (with_writer kept i k') roster
+    (record peer { part = at_writer peer.part (suc i) w; known = record peer.known { answered = answered } })
+told_everywhere kept i k k' roster peer s at long still w answered stands others same =
+    writer_told kept i k k' roster peer s at long (still roster)
+    (still_known roster peer.number (identity_of kept) _ kept.names
+    (λ r is. peer_of_writer kept i k k' r peer.number at long (still r) is) s.knows)
+    w answered stands others same
+
+-- ---- what is known of a reader that its writer is told of
+
+module _ (known : Known) (i : ℕ) (reader : Endpoint) (quiet : Bool) where
+  abbrev contact : Contact
+  contact = record (known.answered (suc i) reader) { asks = false; silent = quiet }
+
+  abbrev told : Known
+  told = known_once_told known (suc i) reader quiet
+
+  pub told_here : (e : Endpoint) → told.answered (suc i) e ≡ matched_anew (known.answered (suc i)) reader quiet e
+  told_here e =
+      ap (λ (b : Bool). if b && same_endpoint e reader then contact else known.answered (suc i) e)
+      (eq-eqb (suc i) (suc i) refl)
+
+  other : (j : ℕ) (b : Bool) → (suc j == suc i) ≡ b → (j ≡ i → ⊥) → (suc j == suc i) ≡ false
+  other j true is apart = let same = eqb-true (suc j) (suc i) is in absurd (apart (omega (arith, same)))
+  other j false is apart = is
+
+  pub told_elsewhere : (j : ℕ) → (j ≡ i → ⊥) → (e : Endpoint) → told.answered (suc j) e ≡ known.answered (suc j) e
+  told_elsewhere j apart e =
+      ap (λ (b : Bool). if b && same_endpoint e reader then contact else known.answered (suc j) e)
+      (other j (suc j == suc i) refl apart)
 
 -- ---- a reader that comes
 
@@ -123,42 +162,25 @@ joins kept i k k' reader greeted roster peer s at accepted j =
         );
         sent = λ p x m h. absurd (omega (arith, m.1));
       },
-      told kept i k k' roster peer s at j.same.max_value
-          (λ is. record {
+      told_everywhere kept i k k' roster peer s at j.same.max_value
+          (λ all is. record {
             entity = is.entity ∙ ap (λ (e : EntityId). Some e) (sym j.same.entity);
             known =
-                subst (λ (ks : List TopicName). AreKnownReaders roster (writer_end peer.number i) ks)
+                subst (λ (ks : List TopicName). AreKnownReaders all (writer_end peer.number i) ks)
                 (sym j.same.known) is.known;
-            ends = j.ends roster (writer_end peer.number i) is.known is.ends;
+            ends = j.ends all (writer_end peer.number i) is.known is.ends;
           }) (joined w reader (knows_reliable w reader)) known.answered
           (writer_stands_on k' (joined w reader (knows_reliable w reader))
-          (matched_anew (peer.known.answered (suc i)) reader met.silent) (known.answered (suc i))
-          (λ e. here e (eq-eqb (suc i) (suc i) refl)) (j.stands w (peer.known.answered (suc i)) stands))
-          (λ j apart e. elsewhere j e (other j (suc j == suc i) refl apart)) refl,
+          (matched_anew (peer.known.answered (suc i)) reader silent_now) (known.answered (suc i))
+          (told_here peer.known i reader silent_now) (j.stands w (peer.known.answered (suc i)) stands))
+          (told_elsewhere peer.known i reader silent_now) refl,
     )
   where
-    met : Contact
-    met = record (peer.known.answered (suc i) reader) {
-      asks = false;
-      silent = greeted && knows_reliable (own_writer peer.part (suc i)) reader;
-    }
+    silent_now : Bool
+    silent_now = greeted && knows_reliable (own_writer peer.part (suc i)) reader
 
     known : Known
-    known = with_answered peer.known (suc i) reader met
-
-    here : (e : Endpoint) → (suc i == suc i) ≡ true
-        → known.answered (suc i) e ≡ matched_anew (peer.known.answered (suc i)) reader met.silent e
-    here e is =
-        ap (λ (b : Bool). if b && same_endpoint e reader then met else peer.known.answered (suc i) e) is
-
-    elsewhere : (n : ℕ) (e : Endpoint) → (suc n == suc i) ≡ false
-        → known.answered (suc n) e ≡ peer.known.answered (suc n) e
-    elsewhere n e is =
-        ap (λ (b : Bool). if b && same_endpoint e reader then met else peer.known.answered (suc n) e) is
-
-    other : (n : ℕ) (b : Bool) → (suc n == suc i) ≡ b → (n ≡ i → ⊥) → (suc n == suc i) ≡ false
-    other n true is apart = let same = eqb-true (suc n) (suc i) is in absurd (apart (omega (arith, same)))
-    other n false is apart = is
+    known = known_once_told peer.known (suc i) reader silent_now
 
 pub joins_at : (kept : PeerKept) (writer i : ℕ) (k k' : WriterKept) (reader : Endpoint) (greeted : Bool)
     (roster : Roster) (peer : Peer)
@@ -207,13 +229,13 @@ leaves kept i k k' reader roster peer s at accepted l =
         );
         sent = λ p x m h. absurd (omega (arith, m.1));
       },
-      told kept i k k' roster peer s at l.same.max_value
-          (λ is. record {
+      told_everywhere kept i k k' roster peer s at l.same.max_value
+          (λ all is. record {
             entity = is.entity ∙ ap (λ (e : EntityId). Some e) (sym l.same.entity);
             known =
-                subst (λ (ks : List TopicName). AreKnownReaders roster (writer_end peer.number i) ks)
+                subst (λ (ks : List TopicName). AreKnownReaders all (writer_end peer.number i) ks)
                 (sym l.same.known) is.known;
-            ends = l.ends roster (writer_end peer.number i) is.ends;
+            ends = l.ends all (writer_end peer.number i) is.ends;
           }) (left w reader) peer.known.answered (l.stands w (peer.known.answered (suc i)) stands)
           (λ j apart e. refl) refl,
     )

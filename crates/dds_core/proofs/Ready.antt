@@ -28,7 +28,7 @@ use Rattle.dds_ends.specs.MatchCounts.{CountsFor}
 use Rattle.dds_ends.specs.Kept.{ReaderKept}
 use Rattle.dds_core.specs.Kept.{PeerKept}
 use Rattle.dds_ends.specs.Identity.{ReaderIdentity, reader_identity, reliable_in, writer_identity}
-use Rattle.dds_core.specs.Identity.{Identity, IsPeerOf}
+use Rattle.dds_core.specs.Identity.{Identity, IsPeerOf, KnowsNames}
 use Rattle.dds_ends.specs.Readiness.{IsNamedAt, IsFirstName, IsRowOf, IsPrepared, IsReadyFor, IsReadyWith, IsAlike, CanTake, TakesTold, SameReader, IsToldBounded, IsToldBy, writer_guid}
 use Rattle.dds_core.specs.Readiness.{IsFirstNamed, AreReady, AreAlike, moves_of, IsBounded}
 use Rattle.dds_core.specs.Receiving.{AllCanTake, TookAt, TakesAll, ReadersTake, StandsAsWell}
@@ -283,6 +283,9 @@ alike_core kept readers h roster peer s =
       is_peer =
           subst (λ (x : Identity). IsPeerOf roster peer.number x)
           (sym (ap identity (same_identities kept.readers readers h))) s.is_peer;
+      knows =
+          subst (λ (x : Identity). KnowsNames roster peer.number x kept.names)
+          (sym (ap identity (same_identities kept.readers readers h))) s.knows;
       moment = s.moment;
       early = s.early;
       names = s.names;

@@ -161,24 +161,25 @@ module _ {F L : Type 0} (notices : L → List Notice) (capacity : L → ℕ) (be
       → Remembers notices capacity becomes meaning new misses
   remembers_on old before misses ev output new r right h =
       let tests : Tests = tests_of meaning old.filtered.filters in
-      let s = h.step r.given r.roster r.peer r.stands r.sound in
+      let m = h.meets r.given r.roster r.peer r.stands r.sound in
+      let s = h.step r.given m.roster m.alike m.stands m.sound m.has in
       let stepped : Peer = s.0 in
       record {
         given = r.given;
-        roster = r.roster;
-        peer = peer_at_end r.peer stepped;
+        roster = m.roster;
+        peer = peer_at_end m.alike stepped;
         stands = s.3;
         sound = s.4;
         right =
-            subst (λ (fs : List F). All (IsMiss (tests_of meaning fs) (at_end r.peer.part stepped.part)) misses)
+            subst (λ (fs : List F). All (IsMiss (tests_of meaning fs) (at_end m.alike.part stepped.part)) misses)
             (sym h.filters)
             (λ k d within.
             let miss : Miss = get_or misses k d in
-            still_nothing tests stepped.part (at_end r.peer.part stepped.part) miss
-            (still_nothing tests r.peer.part stepped.part miss
-            (right r.roster r.peer r.stands.stands.stands k d within)
-            (each_goes_on r.roster tests r.peer ev output stepped s.1 miss.reader))
-            (end_goes_on r.peer.part stepped.part miss.reader));
+            still_nothing tests stepped.part (at_end m.alike.part stepped.part) miss
+            (still_nothing tests m.alike.part stepped.part miss
+            (right m.roster m.alike m.stands.stands.stands k d within)
+            (each_goes_on m.roster tests m.alike ev output stepped s.1 miss.reader))
+            (end_goes_on m.alike.part stepped.part miss.reader));
       }
 
   -- nothing is remembered of a core that has one filter more

@@ -26,6 +26,7 @@ use Rattle.dds_machine.specs.declared.reply.Move.{Move}
 use Rattle.dds_machine.specs.declared.reply.Report.{Report}
 use Rattle.dds_machine.specs.declared.reply.Reply.{Reply}
 use Rattle.dds_machine.specs.declared.call.Call.{Call}
+use Rattle.dds_machine.specs.Matching.{is_known}
 use Rattle.dds_machine.specs.Numbered.{numbered, HasNumber}
 use Rattle.rtps_reader.specs.Tracked.{Tracked}
 use Rattle.dds_base.specs.Counts.{is_later}
@@ -33,7 +34,8 @@ use Rattle.dds_base.specs.declared.endpoint.Endpoint.{Endpoint}
 use Rattle.dds_protocol.specs.Backed.{IsBacked, IsClaimed, TookNone}
 use Rattle.dds_protocol.specs.Claims.{Receiver, receiver_of, after_submessage}
 use Rattle.dds_machine.specs.Part.{place_of, heard_of}
-use Rattle.dds_protocol.specs.Peer.{Peer, packets_of, state_of, Delivery}
+use Rattle.dds_protocol.specs.Meetings.{MeetsByRoster}
+use Rattle.dds_protocol.specs.Peer.{Peer, PeerStep, packets_of, state_of, Delivery}
 use Rattle.dds_protocol.specs.DueMessages.{Due, AreSent, was_asked}
 use Rattle.dds_protocol.specs.Protocol.{State, InTurn, ReaderTakes, Takes, MayNeedMemory, FollowsMessage}
 use Rattle.dds_core.specs.declared.effects.Effects.{Effects}
@@ -45,8 +47,8 @@ use Rattle.dds_core.specs.Receiving.{with_state, StandsAsWell, ReadersTook, Took
 use Rattle.dds_core.proofs.TakenSoFar.{TakenTo, TakesTo}
 use Rattle.dds_ends.specs.Sending.{AreMessages}
 use Rattle.dds_core.specs.Standing.{StandsFor}
-use Rattle.dds_core.specs.Ruling.{IsSound}
-use Rattle.dds_core.specs.Stepping.{Sends, Steps, StepsBy, SoundSteps, SoundStepsBy}
+use Rattle.dds_core.specs.Ruling.{IsSound, KeepsRules}
+use Rattle.dds_core.specs.Stepping.{Sends, Steps, StepsMeeting, SoundSteps, SoundStepsBy}
 use Rattle.dds_machine.specs.Watching.{Tests}
 use Rattle.dds_protocol.proofs.Contacts.{call_knows, tick_knows}
 use Rattle.dds_protocol.proofs.Growth.{TickStep-rows}
@@ -64,6 +66,7 @@ pub stands_beside : (kept : PeerKept) (new watched : Watched) (places : Places) 
     })
 stands_beside kept new watched places delivered roster peer same s = record {
   is_peer = s.is_peer;
+  knows = s.knows;
   moment = s.moment;
   early = s.early;
   names = s.names;
@@ -371,13 +374,17 @@ sound_still roster old new number known delivered readers b =
       heard = λ w r count e.
           ap (λ (t : Tracked). is_later t.count count) (known w r)
           ∙ b.heard w r count (ap (λ xs. heard_of (numbered xs r []) w) (sym readers) ∙ e);
+      then = λ d r w among h. ap (λ xs. is_known (numbered xs r []) w) readers ∙ b.then d r w among h;
     }))
 
-pub sound_call : {tests : Tests} (old new : PeerKept) (call : Call) (output : Output)
-    → StepsBy tests old (event.Call call) output new → Sends old (event.Call call) output
-    → SoundStepsBy tests old (event.Call call) output new
-sound_call {tests} old new call output steps sends roster peer s sound =
-    let r = steps roster peer s in
+sound_met : {tests : Tests} (old new : PeerKept) (call : Call) (output : Output)
+    → StepsMeeting tests old (event.Call call) output new → Sends old (event.Call call) output
+    → (roster : Roster) (peer : Peer) → StandsFor old roster peer → IsSound roster peer
+    → MeetsByRoster roster peer.number (event.Call call) output.reply
+    → (after : Peer) × PeerStep roster tests peer (event.Call call) output after × StandsFor new roster after
+    × IsSound roster after × KeepsRules roster peer (event.Call call) output after
+sound_met {tests} old new call output steps sends roster peer s sound met =
+    let r = steps.step roster peer s met in
     let told : IsSound roster (record peer { part = r.0.part }) =
     call_backed roster peer.number (packets_of peer.delivered) peer.delivered (state_of peer) tests call output.reply
     r.0.part r.1.step.0 sound in (
@@ -388,6 +395,12 @@ sound_call {tests} old new call output steps sends roster peer s sound =
           (call_knows peer call output.reply r.0 r.1.knows).tracked r.1.step.1 refl told,
       sends roster peer s,
     )
+
+pub sound_call : {tests : Tests} (old new : PeerKept) (call : Call) (output : Output)
+    → StepsMeeting tests old (event.Call call) output new → Sends old (event.Call call) output
+    → SoundStepsBy tests old (event.Call call) output new
+sound_call old new call output steps sends =
+    record { step = sound_met old new call output steps sends; meets = steps.meets }
 
 pub sound_tick : (old new : PeerKept) (now : ℕ) (output : Output) → Steps old (event.Tick now) output new
     → Sends old (event.Tick now) output → SoundSteps old (event.Tick now) output new

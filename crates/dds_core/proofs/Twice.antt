@@ -14,6 +14,7 @@ use Rattle.dds_protocol.specs.declared.event.Event.TheVariants as event
 use Rattle.dds_protocol.specs.declared.event.Output.{Output}
 use Rattle.dds_protocol.specs.declared.event.Packet.{Packet}
 use Rattle.dds_protocol.specs.DueMessages.{Due, AreSent, assertions_due, changes_due}
+use Rattle.dds_protocol.specs.Meetings.{MeetsByRoster}
 use Rattle.dds_protocol.specs.Peer.{Knows, Peer, PeerStep, EventStep, state_of as network_of}
 use Rattle.dds_ends.specs.declared.twin.Twin.{Twin}
 use Rattle.dds_ends.specs.declared.twin.Twin.TheVariants.{Unasked, Asked, Kept}
@@ -146,13 +147,26 @@ pub loses_steps : {F L : Type 0} (notices : L → List Notice) (capacity : L →
     → LosesPackets output less
     → Steps notices capacity becomes tests old e output new → Steps notices capacity becomes tests old e less new
 loses_steps notices capacity becomes tests old e output less new l s = record {
-  step = λ given roster peer stands sound.
-      let k = s.step given roster peer stands sound in (
+  step = λ given roster peer stands sound met.
+      let k =
+      s.step given roster peer stands sound
+      (subst (λ (r : Reply). MeetsByRoster roster peer.number e r) l.reply met) in (
         k.0,
         loses_step roster tests peer e output less k.0 l k.1,
         loses_rules roster peer e output less k.0 l k.2,
         k.3,
         k.4,
       );
+  meets = λ given roster peer stands sound.
+      let m = s.meets given roster peer stands sound in
+      record {
+        roster = m.roster;
+        alike = m.alike;
+        number = m.number;
+        part = m.part;
+        stands = m.stands;
+        sound = m.sound;
+        has = subst (λ (r : Reply). MeetsByRoster m.roster m.alike.number e r) (sym l.reply) m.has;
+      };
   filters = s.filters;
 }

@@ -10,20 +10,26 @@ use Rattle.dds_conditions.specs.Watched.{filter_refusal}
 use Rattle.dds_protocol.specs.declared.event.Event.{Event}
 use Rattle.dds_protocol.specs.declared.event.Output.{Output}
 use Rattle.dds_protocol.specs.Filters.{peer_with_filter}
+use Rattle.dds_protocol.specs.Meetings.{MeetsByRoster}
 use Rattle.dds_protocol.specs.Peer.{Peer, PeerStep}
 use Rattle.dds_machine.specs.Watching.{Tests}
 use Rattle.dds_core.specs.Ruling.{IsSound, KeepsRules}
 use Rattle.dds_core.specs.Filtering.{FilteredKept, StandsFor}
+use Rattle.dds_core.specs.Somewhere.{Somewhere}
 
--- For each state that the old values stand for, and of which all that is known was claimed, the event is a step by what
--- the filters mean to one that the new values stand for, and of which all that is known was claimed; it follows the
--- rules of the protocol. The filters stay.
+-- For each state that the old values stand for, and of which all that is known was claimed, the event, by which the peer
+-- meets nobody but whom the roster has, is a step by what the filters mean to one that the new values stand for, and of
+-- which all that is known was claimed; it follows the rules of the protocol. Some roster has whom it meets. The filters
+-- stay.
 pub record Steps {F : Type 0} (tests : Tests) (old : FilteredKept F) (event : Event) (output : Output)
     (new : FilteredKept F) : Type 0 where
   pub step : (roster : Roster) (peer : Peer) → StandsFor old roster peer → IsSound roster peer
+      → MeetsByRoster roster peer.number event output.reply
       → (after : Peer) × PeerStep roster tests peer event output after × StandsFor new roster after
       × IsSound roster after
       × KeepsRules roster peer event output after
+  pub meets : (roster : Roster) (peer : Peer) → StandsFor old roster peer → IsSound roster peer
+      → Somewhere (StandsFor old) peer event output.reply
   pub filters : new.filters ≡ old.filters
 
 -- The filter is the last one. For each state that the old values stand for there is a number for it, and it is this

@@ -3,6 +3,7 @@ pub mod Lending
 pub mod Identity
 pub mod Standing
 pub mod Ruling
+pub mod Somewhere
 pub mod Stepping
 pub mod Opening
 pub mod OpeningEnds

@@ -9,6 +9,7 @@ use Rattle.dds_base.specs.declared.entity.Entity.{Entity}
 use Rattle.dds_notices.specs.declared.mask.StatusMask.{StatusMask}
 use Rattle.dds_notices.specs.declared.notice.Notice.{Notice}
 use Rattle.dds_notices.specs.Listeners.{ByEntity, HandedBack, Slotted, StandsFor as SlotsStandFor, at_entity, kept_in, listener_refusal, listener_place, nobody, unknown_entity, with_entity}
+use Rattle.dds_protocol.specs.Meetings.{MeetsByRoster}
 use Rattle.dds_protocol.specs.declared.event.Event.{Event}
 use Rattle.dds_protocol.specs.declared.event.Output.{Output}
 use Rattle.dds_protocol.specs.Filters.{peer_with_filter}
@@ -20,6 +21,7 @@ use Rattle.dds_conditions.specs.Watched.{filter_refusal}
 use Rattle.dds_base.specs.Refusal.{Refuses}
 use Rattle.dds_core.specs.Filtering.{FilteredKept, StandsFor as FilteredStandsFor}
 use Rattle.dds_core.specs.Ruling.{IsSound, KeepsRules}
+use Rattle.dds_core.specs.Somewhere.{Somewhere}
 
 -- what a peer keeps, with its filters and its listeners
 pub record CoreKept (F L : Type 0) : Type 0 where
@@ -38,16 +40,21 @@ pub record StandsFor {F L : Type 0} (notices : L → List Notice) (capacity : L 
   pub stands : FilteredStandsFor kept.filtered roster peer
   pub listeners : SlotsStandFor notices capacity becomes given kept.listeners peer.part.dds.listeners
 
--- For each state that the old values stand for, and of which all that is known was claimed, the event is a step by what
--- the filters mean, which follows the rules of the protocol; at its end listeners are told what it raised. The new
--- values stand for the state after that, and all that is known of it was claimed. The filters stay.
+-- For each state that the old values stand for, and of which all that is known was claimed, the event, by which the peer
+-- meets nobody but whom the roster has (MeetReader, MeetWriter), is a step by what the filters mean, which follows the
+-- rules of the protocol; at its end listeners are told what it raised. The new values stand for the state after that, and
+-- all that is known of it was claimed. Some roster has whom the peer meets, whoever it is. The filters stay.
 pub record Steps {F L : Type 0} (notices : L → List Notice) (capacity : L → ℕ) (becomes : L → Notice → L → Type 0)
     (tests : Tests) (old : CoreKept F L) (event : Event) (output : Output) (new : CoreKept F L) : Type 0 where
   pub step : (given : ByEntity L) (roster : Roster) (peer : Peer)
       → StandsFor notices capacity becomes given old roster peer → IsSound roster peer
+      → MeetsByRoster roster peer.number event output.reply
       → (stepped : Peer) × PeerStep roster tests peer event output stepped × KeepsRules roster peer event output stepped
       × StandsFor notices capacity becomes given new roster (peer_at_end peer stepped)
       × IsSound roster (peer_at_end peer stepped)
+  pub meets : (given : ByEntity L) (roster : Roster) (peer : Peer)
+      → StandsFor notices capacity becomes given old roster peer → IsSound roster peer
+      → Somewhere (StandsFor notices capacity becomes given old) peer event output.reply
   pub filters : new.filtered.filters ≡ old.filtered.filters
 
 -- The filter is the last one. For each state that the old values stand for there is a number for it, and it is this

@@ -8,12 +8,13 @@ use Rattle.dds_base.specs.Bounds.{end_of_moments}
 use Rattle.dds_protocol.specs.Dues.{AreTellable}
 use Rattle.dds_protocol.specs.Peer.{Peer}
 use Rattle.dds_core.specs.Kept.{PeerKept}
-use Rattle.dds_core.specs.Identity.{identity_of, IsPeerOf}
+use Rattle.dds_core.specs.Identity.{identity_of, KnowsNames, IsPeerOf}
 use Rattle.dds_ends.specs.Standing.{WritersStand, ReadersStand}
 
 -- a state of the peer for which what is kept stands
 pub record StandsFor (kept : PeerKept) (roster : Roster) (peer : Peer) : Type 0 where
   pub is_peer : IsPeerOf roster peer.number (identity_of kept)
+  pub knows : KnowsNames roster peer.number (identity_of kept) kept.names
   pub moment : peer.part.dds.moment ≡ kept.moment
   pub early : kept.moment < end_of_moments
   pub writers : WritersStand kept.writers peer.part.rtps.writers peer.known.answered

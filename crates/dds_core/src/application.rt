@@ -116,6 +116,7 @@ impl<F: Filter, L: Listener> Core<F, L> {
         // are told of, to one that it stands for afterwards; what a call enters is announced, what is due at a tick is
         // sent, a delivered packet is taken up by the rules of the protocol, and what is due by them is sent, and places
         // that are tried again go as far as those let them.
+        // By `MeetReader` and `MeetWriter` it is so in each roster that has whom the peer meets.
         ensures step { Steps L.notices L.capacity L.becomes
             (tests_of F.meaning self.old.filtered.filters) self.old event result self.new }
         // What goes out is the written form of a message.
@@ -137,6 +138,7 @@ impl<F: Filter, L: Listener> Core<F, L> {
         // are told of, to one that it stands for afterwards; what a call enters is announced, what is due at a tick is
         // sent, a delivered packet is taken up by the rules of the protocol, and what is due by them is sent, and places
         // that are tried again go as far as those let them.
+        // By `MeetReader` and `MeetWriter` it is so in each roster that has whom the peer meets.
         ensures step { Steps L.notices L.capacity L.becomes
             (tests_of F.meaning self.old.filtered.filters) self.old event result.0 self.new }
         // What goes out is the written form of a message.

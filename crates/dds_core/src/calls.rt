@@ -10,7 +10,7 @@ ghost use Rattle.dds_protocol.specs.declared.event.Event.TheVariants as event;
 ghost use Rattle.dds_ends.specs.Kept.{WriterKept};
 ghost use Rattle.dds_core.specs.Remembering.{AreMisses};
 ghost use Rattle.dds_ends.specs.Standing.{IsShort};
-ghost use Rattle.dds_core.specs.Stepping.{Sends, Steps, StepsBy};
+ghost use Rattle.dds_core.specs.Stepping.{Sends, Steps, StepsMeeting};
 ghost use Rattle.dds_core.specs.Making.{Makes, IsValueOf};
 ghost use Rattle.dds_ends.specs.Sending.{AreMessages};
 ghost use Rattle.dds_core.specs.Sending.{SendsNothing};
@@ -35,7 +35,8 @@ impl Peer {
         misses: &mut Misses,
     ) -> Output
         requires right { AreMisses (T.meaning filters.now) self.old misses.old }
-        ensures step { StepsBy (T.meaning filters.now) self.old (event.Call call) result self.new }
+        ensures step { StepsMeeting
+            (T.meaning filters.now) self.old (event.Call call) result self.new }
         ensures sends { Sends self.old (event.Call call) result }
         ensures messages { AreMessages result.packets }
         ensures few { result.unsent ≤ max_known }
@@ -114,6 +115,12 @@ impl Peer {
             Call::UnmatchWriter { reader, writer } => self.unmatch_writer(reader, writer),
             Call::GetPublicationMatched { writer } => self.get_publication_matched(writer),
             Call::GetSubscriptionMatched { reader } => self.get_subscription_matched(reader),
+            Call::MeetReader {
+                writer,
+                far,
+                greeted,
+            } => self.meet_reader(writer, far, greeted),
+            Call::MeetWriter { reader, far } => self.meet_writer(reader, far),
         }
     }
 

@@ -103,6 +103,7 @@ impl<F: Filter> FilteredPeer<F> {
         // For each state that the peer stands for, the event is a step, by what its filters mean, to one that it stands
         // for afterwards; what a call enters is announced, what is due at a tick is sent, and a delivered packet is
         // taken up by the rules of the protocol, and what is due by them is sent.
+        // By `MeetReader` and `MeetWriter` it is so in each roster that has whom the peer meets.
         ensures step { Steps (tests_of F.meaning self.old.filters) self.old (event_of event.entry)
             result self.new }
         // The same of what it keeps beside the filters.

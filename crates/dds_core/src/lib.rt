@@ -42,6 +42,7 @@ mod by_filter;
 mod calls;
 mod delivery;
 mod effects;
+mod far_ends;
 mod filtered_peer;
 mod lent_event;
 mod matching_readers;

@@ -80,6 +80,7 @@ impl Peer {
         requires right { AreMisses (T.meaning filters.now) self.old misses.old }
         // For each state that the peer stands for, the event is a step by what the filters mean, and by the rules of
         // the protocol.
+        // By `MeetReader` and `MeetWriter` it is so in each roster that has whom the peer meets.
         ensures step { SoundStepsBy (T.meaning filters.now) self.old (event_of event.entry) result
             self.new }
         // What goes out is the written form of a message.
