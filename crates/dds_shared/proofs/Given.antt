@@ -19,6 +19,7 @@ use Rattle.dds_protocol.proofs.FiltersKept.{keeps_listeners}
 use Rattle.dds_core.specs.Listening.{CoreKept, StandsFor, Steps}
 use Rattle.dds_core.specs.Ruling.{IsSound}
 use Rattle.dds_trace.specs.History.{IsHistoryOf, emptied, emptied_place}
+use Rattle.dds_trace.proofs.Adding.{first_of_all}
 use Rattle.dds_trace.proofs.Places.{end_places}
 use Rattle.dds_shared.specs.Seeds.{listener_in, listeners_in, slot_shown, slots_shown}
 
@@ -176,17 +177,19 @@ module _ {F L : Type 0} (notices : L → List Notice) (capacity : L → ℕ) (be
       → Steps notices capacity becomes tests old event o new
       → slots_shown capacity new.listeners ≡ slots_shown capacity old.listeners
   keeps_slots tests peer old new event o stands sound steps =
-      let r = steps.step given roster peer stands sound in
+      let m = steps.meets given roster peer stands sound in
+      let before : Peer = m.alike in
+      let r = steps.step given m.roster before m.stands m.sound m.has in
       let stepped : Peer = r.0 in
-      let after : Peer = peer_at_end peer stepped in
-      let same : emptied after.part.dds.listeners ≡ emptied peer.part.dds.listeners =
-      end_places peer.part stepped.part
-      ∙ ap (λ (p : Places). emptied p) (keeps_listeners roster tests peer event o stepped r.1) in
+      let after : Peer = peer_at_end before stepped in
+      let same : emptied after.part.dds.listeners ≡ emptied before.part.dds.listeners =
+      end_places before.part stepped.part
+      ∙ ap (λ (p : Places). emptied p) (keeps_listeners m.roster tests before event o stepped r.1) in
       all_shown notices capacity becomes given new.listeners after.part.dds.listeners r.3.listeners
       ∙ sym (all_emptied after.part.dds.listeners)
       ∙ ap (λ (p : Places). places_shown p) same
-      ∙ all_emptied peer.part.dds.listeners
-      ∙ sym (all_shown notices capacity becomes given old.listeners peer.part.dds.listeners stands.listeners)
+      ∙ all_emptied before.part.dds.listeners
+      ∙ sym (all_shown notices capacity becomes given old.listeners before.part.dds.listeners m.stands.listeners)
 
 module _ {F L : Type 0} (meaning : F → Key → List ℕ → Bool) (notices : L → List Notice) (capacity : L → ℕ)
     (becomes : L → Notice → L → Type 0) (given : ByEntity L) (config : Config) (number : ℕ) where
@@ -195,7 +198,8 @@ module _ {F L : Type 0} (meaning : F → Key → List ℕ → Bool) (notices : L
       → IsHistoryOf meaning notices capacity becomes given config number [] core
       → IsHistoryOf meaning notices capacity becomes (listeners_in core.listeners) config number [] core
   is_given core h =
-      let empty : emptied h.peer.part.dds.listeners ≡ h.peer.part.dds.listeners =
-      ap (λ (p : Peer). p.part.dds.listeners) h.history in
+      let own = h.in_rosters config (first_of_all config) h.good tt in
+      let empty : emptied own.peer.part.dds.listeners ≡ own.peer.part.dds.listeners =
+      ap (λ (p : Peer). p.part.dds.listeners) own.history in
       subst (λ (g : ByEntity L). IsHistoryOf meaning notices capacity becomes g config number [] core)
-      (all_given notices capacity becomes given core.listeners h.peer.part.dds.listeners h.stands.listeners empty) h
+      (all_given notices capacity becomes given core.listeners own.peer.part.dds.listeners own.stands.listeners empty) h

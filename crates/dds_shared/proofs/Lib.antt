@@ -1,3 +1,4 @@
+pub mod Opening
 pub mod Seats
 pub mod Given
 pub mod Seeds

@@ -8,7 +8,6 @@ use Rattle.dds_notices.specs.declared.notice.Notice.{Notice}
 use Rattle.dds_notices.specs.Listeners.{Slotted}
 use Rattle.dds_protocol.specs.declared.event.Event.{Event}
 use Rattle.dds_protocol.specs.declared.event.Output.{Output}
-use Rattle.dds_protocol.specs.Roster.{roster_of}
 use Rattle.dds_core.specs.Listening.{CoreKept, Steps}
 use Rattle.dds_trace.specs.declared.trace.Entry.{Entry}
 use Rattle.dds_trace.specs.History.{IsHistoryOf, entry_of}
@@ -43,7 +42,7 @@ module _ {F L : Type 0} (meaning : F → Key → List ℕ → Bool) (notices : L
         history = subst P (sym is)
             (extends meaning notices capacity becomes given config number log old new seat event o kept.history step);
         same_filters = step.filters ∙ kept.same_filters;
-        same_slots = keeps_slots notices capacity becomes given (roster_of config) tests peer old new event o kept.history.stands
+        same_slots = keeps_slots notices capacity becomes given kept.history.roster tests peer old new event o kept.history.stands
             kept.history.sound step ∙ kept.same_slots;
         room = enough;
         countable = omega (

@@ -15,6 +15,7 @@ use Rattle.dds_core.specs.Listening.{CoreKept, StandsFor}
 use Rattle.dds_core.specs.Standing.{StandsFor as PeerStandsFor}
 use Rattle.dds_trace.specs.History.{IsHistoryOf}
 use Rattle.dds_trace.specs.Uses.{in_use_of}
+use Rattle.dds_trace.proofs.Adding.{first_of_all}
 
 module _ {F L : Type 0} (notices : L → List Notice) (capacity : L → ℕ) (becomes : L → Notice → L → Type 0)
     (given : ByEntity L) (core : CoreKept F L) (roster : Roster) (peer : Peer) where
@@ -51,6 +52,7 @@ module _ {F L : Type 0} (meaning : F → Key → List ℕ → Bool) (notices : L
   pub unused_yet : (core : CoreKept F L) → IsHistoryOf meaning notices capacity becomes given config number [] core
       → in_use_of core ≡ 0
   unused_yet core h =
-      ap (λ (w : Watched). uses_in w.wait_sets) (sym h.stands.stands.stands.watch)
-      ∙ ap (λ (p : Peer). uses_in p.part.dds.watch.wait_sets) (sym h.history)
+      let own = h.in_rosters config (first_of_all config) h.good tt in
+      ap (λ (w : Watched). uses_in w.wait_sets) (sym own.stands.stands.stands.watch)
+      ∙ ap (λ (p : Peer). uses_in p.part.dds.watch.wait_sets) (sym own.history)
       ∙ ap uses_in (opens_waitless config number)

@@ -15,8 +15,9 @@ use Rattle.dds_protocol.specs.Roster.{roster_of}
 use Rattle.dds_core.specs.Listening.{CoreKept}
 use Rattle.dds_core.specs.Opening.{opening_peer}
 use Rattle.dds_trace.specs.Entries.{Traced}
-use Rattle.dds_trace.specs.History.{IsHistory, IsHistoryOf, emptied, opened}
-use Rattle.dds_trace.specs.Woven.{AreApart, AreHistories, AreHistoriesOf, HonestOrdersRun, IsOpening}
+use Rattle.dds_trace.specs.History.{IsHistory, IsHistoryIn, IsHistoryOf, emptied, opened}
+use Rattle.dds_trace.specs.Woven.{AreApart, AreHistories, AreHistoriesOf, HonestOrdersRun, IsOpening, MeetByConfig}
+use Rattle.dds_trace.proofs.Adding.{first_of_all}
 use Rattle.dds_trace.proofs.Interleaved.{runs_histories, trace_of}
 
 -- ---- peers with other filters and places of listeners
@@ -77,45 +78,52 @@ module _ {F L : Type 0} (meaning : F → Key → List ℕ → Bool) (notices : L
   abbrev Given : Type 0
   Given = AreHistoriesOf meaning notices capacity becomes given config cores ts
 
-  abbrev beside_of : Given → (n : ℕ) → Found n → ℕ × Places
-  beside_of known n (inl f) =
-      (length (cores n).filtered.filters, emptied (known f.0 f.1 f.2).1.peer.part.dds.listeners)
-  beside_of known n (inr none) = (0, (opening_peer config n).part.dds.listeners)
+  -- of the roster of the configuration
+  abbrev in_own : Given → MeetByConfig config ts → (t : ℕ) (trace : Traced) → slice_get ts t ≡ Some trace
+      → IsHistoryIn meaning notices capacity becomes (given trace.peer) config (roster_of config) trace.peer
+      trace.entries (cores trace.peer)
+  in_own known met t trace got =
+      let h = (known t trace got).1 in h.in_rosters config (first_of_all config) h.good (met t trace got)
 
-  abbrev start_of : Given → WorldState
-  start_of known = world_with config (λ n. beside_of known n (trace_of ts n))
+  abbrev beside_of : Given → MeetByConfig config ts → (n : ℕ) → Found n → ℕ × Places
+  beside_of known met n (inl f) =
+      (length (cores n).filtered.filters, emptied (in_own known met f.0 f.1 f.2).peer.part.dds.listeners)
+  beside_of known met n (inr none) = (0, (opening_peer config n).part.dds.listeners)
+
+  abbrev start_of : Given → MeetByConfig config ts → WorldState
+  start_of known met = world_with config (λ n. beside_of known met n (trace_of ts n))
 
   -- where a trace is found it is the one
-  begins_so : (known : Given) (apart : AreApart ts) (t : ℕ) (trace : Traced) → slice_get ts t ≡ Some trace
-      → (found : Found trace.peer)
-      → (h : IsHistoryOf meaning notices capacity becomes (given trace.peer) config trace.peer trace.entries
-      (cores trace.peer))
-      × (beside_of known trace.peer found
+  begins_so : (known : Given) (met : MeetByConfig config ts) (apart : AreApart ts) (t : ℕ) (trace : Traced)
+      → slice_get ts t ≡ Some trace → (found : Found trace.peer)
+      → (h : IsHistoryIn meaning notices capacity becomes (given trace.peer) config (roster_of config) trace.peer
+      trace.entries (cores trace.peer))
+      × (beside_of known met trace.peer found
       ≡ (length (cores trace.peer).filtered.filters, emptied h.peer.part.dds.listeners))
-  begins_so known apart t trace got (inr none) = absurd (none t trace got refl)
-  begins_so known apart t trace got (inl f) =
+  begins_so known met apart t trace got (inr none) = absurd (none t trace got refl)
+  begins_so known met apart t trace got (inl f) =
       let at : f.0 ≡ t = apart f.0 t f.1 trace f.2 got f.3 in
       let there : slice_get ts t ≡ Some f.1 = ap (slice_get ts) (sym at) ∙ f.2 in
       let same : f.1 ≡ trace = let g = got in cc in
-      let b : ℕ × Places = beside_of known trace.peer (inl f) in
-      let P : Traced → Type 0 = λ x. (h : IsHistoryOf meaning notices capacity becomes (given x.peer) config x.peer x.entries
-      (cores x.peer))
+      let b : ℕ × Places = beside_of known met trace.peer (inl f) in
+      let P : Traced → Type 0 = λ x. (h : IsHistoryIn meaning notices capacity becomes (given x.peer) config
+      (roster_of config) x.peer x.entries (cores x.peer))
       × (b ≡ (length (cores trace.peer).filtered.filters, emptied h.peer.part.dds.listeners)) in
-      let here : P f.1 = ((known f.0 f.1 f.2).1, refl) in
+      let here : P f.1 = (in_own known met f.0 f.1 f.2, refl) in
       subst P same here
 
   pub honest_orders_run : HonestOrdersRun meaning notices capacity becomes given config cores ts
-  honest_orders_run order apart known honest =
-      let f : Beside = λ n. beside_of known n (trace_of ts n) in
-      let start : WorldState = start_of known in
+  honest_orders_run order apart known met honest =
+      let f : Beside = λ n. beside_of known met n (trace_of ts n) in
+      let start : WorldState = start_of known met in
       let tests : AllTests = λ n. tests_of meaning (cores n).filtered.filters in
       let begin : (t : ℕ) (trace : Traced) → slice_get ts t ≡ Some trace
-      → (h : IsHistoryOf meaning notices capacity becomes (given trace.peer) config trace.peer trace.entries
-      (cores trace.peer))
+      → (h : IsHistoryIn meaning notices capacity becomes (given trace.peer) config (roster_of config) trace.peer
+      trace.entries (cores trace.peer))
       × (peer_at start trace.peer
       ≡ opened config trace.peer (length (cores trace.peer).filtered.filters) (emptied h.peer.part.dds.listeners)) =
       λ t trace got.
-      let b = begins_so known apart t trace got (trace_of ts trace.peer) in (
+      let b = begins_so known met apart t trace got (trace_of ts trace.peer) in (
         b.0,
         opens_at config f trace.peer (known t trace got).0
             ∙ ap (λ (x : ℕ × Places). opened config trace.peer x.0 x.1) b.1,

@@ -302,15 +302,16 @@ module _ {F L : Type 0} (notices : L → List Notice) (capacity : L → ℕ)
       → StandsFor notices capacity becomes given old roster peer → IsSound roster peer
       → Steps notices capacity becomes tests old ev o new → in_use_of new ≤ in_use_of old + 1
   one_more tests roster peer old new ev o stands sound h =
-      let r = h.step given roster peer stands sound in
+      let m = h.meets given roster peer stands sound in
+      let r = h.step given m.roster m.alike m.stands m.sound m.has in
       let stepped : Peer = r.0 in
-      let step : OneMore peer.part.dds stepped.part.dds =
-      event_uses roster tests peer ev o.reply stepped r.1.step in
-      let earlier = uses_are peer.part.dds.watch.wait_sets in
+      let step : OneMore m.alike.part.dds stepped.part.dds =
+      event_uses m.roster tests m.alike ev o.reply stepped r.1.step in
+      let earlier = uses_are m.alike.part.dds.watch.wait_sets in
       let later = uses_are stepped.part.dds.watch.wait_sets in
-      let before = ap (λ (w : Watched). uses_in w.wait_sets) stands.stands.stands.watch in
+      let before = ap (λ (w : Watched). uses_in w.wait_sets) m.stands.stands.stands.watch in
       let after = ap (λ (w : Watched). uses_in w.wait_sets) (r.3.stands.stands.watch) in
-      let ended = ap (λ (w : Watched). uses_in w.wait_sets) (end_watch peer.part stepped.part) in
+      let ended = ap (λ (w : Watched). uses_in w.wait_sets) (end_watch m.alike.part stepped.part) in
       omega (arith, step, before, after, ended, earlier, later)
 
   -- the end of a wait ends that one
@@ -319,7 +320,7 @@ module _ {F L : Type 0} (notices : L → List Notice) (capacity : L → ℕ)
       → Steps notices capacity becomes tests old (event.Call (WaitEnd s)) o new
       → (in_use_of new + 1 ≡ in_use_of old) × (IsInUse new s → ⊥)
   ends_one tests roster peer old new s o stands sound used h =
-      let r = h.step given roster peer stands sound in
+      let r = h.step given roster peer stands sound tt in
       let stepped : Peer = r.0 in
       let before : peer.part.dds.watch ≡ old.filtered.peer.watch = stands.stands.stands.watch in
       let after : (peer_at_end peer stepped).part.dds.watch ≡ new.filtered.peer.watch = r.3.stands.stands.watch in
@@ -343,7 +344,7 @@ module _ {F L : Type 0} (notices : L → List Notice) (capacity : L → ℕ)
       → Steps notices capacity becomes tests old (event.Call (WaitLook s)) o new
       → (o.reply ≡ WaitsOn → ⊥) → (o.reply ≡ Refused code.Memory → ⊥) → IsInUse new s → ⊥
   look_ends tests roster peer old new s o stands sound h over found still =
-      let r = h.step given roster peer stands sound in
+      let r = h.step given roster peer stands sound tt in
       let stepped : Peer = r.0 in
       let after : (peer_at_end peer stepped).part.dds.watch ≡ new.filtered.peer.watch = r.3.stands.stands.watch in
       let ended : (peer_at_end peer stepped).part.dds.watch ≡ stepped.part.dds.watch =

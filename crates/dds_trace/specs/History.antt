@@ -11,10 +11,11 @@ use Rattle.dds_protocol.specs.declared.event.Event.{Event}
 use Rattle.dds_protocol.specs.declared.event.Output.{Output}
 use Rattle.dds_protocol.specs.Noticing.{peer_at_end}
 use Rattle.dds_protocol.specs.Peer.{Peer, PeerStep}
-use Rattle.dds_protocol.specs.Roster.{Roster, roster_of}
+use Rattle.dds_protocol.specs.Meetings.{MeetsByRoster}
+use Rattle.dds_protocol.specs.Roster.{AreGood, Roster}
 use Rattle.dds_machine.specs.Watching.{Tests}
 use Rattle.dds_core.specs.Listening.{CoreKept, StandsFor}
-use Rattle.dds_core.specs.Opening.{opening_peer}
+use Rattle.dds_core.specs.Opening.{InRosters, opening_peer}
 use Rattle.dds_core.specs.Ruling.{IsSound, KeepsRules}
 use Rattle.dds_trace.specs.declared.trace.Entry.{Entry}
 
@@ -57,15 +58,37 @@ opened config number filters places = record (opening_peer config number) {
   };
 }
 
--- The entries are a history of the core: they lead from its opening, with its filters and the listeners that it was
--- given, to a state that it stands for, of which all that is known was claimed.
-pub record IsHistoryOf {F L : Type 0} (meaning : F → Key → List ℕ → Bool) (notices : L → List Notice)
-    (capacity : L → ℕ) (becomes : L → Notice → L → Type 0) (given : ByEntity L) (config : Config) (number : ℕ) (entries : List Entry) (core : CoreKept F L) : Type 0 where
+-- by these entries the peer of this number meets nobody but whom the roster has
+abbrev pub AllMeetBy : Roster → ℕ → List Entry → Type 0
+AllMeetBy roster number [] = Unit {0}
+AllMeetBy roster number (e ∷ es) =
+    MeetsByRoster roster number e.event e.output.reply × AllMeetBy roster number es
+
+-- The entries are a history of the core in this roster: they lead from its opening, with its filters and the listeners
+-- that it was given, to a state that it stands for, of which all that is known was claimed.
+pub record IsHistoryIn {F L : Type 0} (meaning : F → Key → List ℕ → Bool) (notices : L → List Notice)
+    (capacity : L → ℕ) (becomes : L → Notice → L → Type 0) (given : ByEntity L) (config : Config) (roster : Roster)
+    (number : ℕ) (entries : List Entry) (core : CoreKept F L) : Type 0 where
   pub peer : Peer
-  pub history : IsHistory (roster_of config) (tests_of meaning core.filtered.filters)
+  pub is_number : peer.number ≡ number
+  pub history : IsHistory roster (tests_of meaning core.filtered.filters)
       (opened config number (length core.filtered.filters) (emptied peer.part.dds.listeners)) entries peer
-  pub stands : StandsFor notices capacity becomes given core (roster_of config) peer
-  pub sound : IsSound (roster_of config) peer
+  pub stands : StandsFor notices capacity becomes given core roster peer
+  pub sound : IsSound roster peer
+
+-- The entries are a history of the core: in each roster in which the peers of the configuration come first, and which has
+-- whom the core meets by them. Where the configuration names whoever is met, that is its own; and whoever it was, in some
+-- roster the core stands for a state of which all that is known was claimed.
+pub record IsHistoryOf {F L : Type 0} (meaning : F → Key → List ℕ → Bool) (notices : L → List Notice)
+    (capacity : L → ℕ) (becomes : L → Notice → L → Type 0) (given : ByEntity L) (config : Config) (number : ℕ)
+    (entries : List Entry) (core : CoreKept F L) : Type 0 where
+  pub good : AreGood config.peers
+  pub in_rosters : InRosters config (λ roster. AllMeetBy roster number entries
+      → IsHistoryIn meaning notices capacity becomes given config roster number entries core)
+  pub roster : Roster
+  pub peer : Peer
+  pub stands : StandsFor notices capacity becomes given core roster peer
+  pub sound : IsSound roster peer
 
 -- an entry of these parts
 abbrev pub entry_of : ℕ → Event → Output → Entry

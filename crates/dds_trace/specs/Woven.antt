@@ -23,7 +23,7 @@ use Rattle.dds_protocol.specs.World.{WorldState, machine_of, peer_at}
 use Rattle.dds_protocol.specs.Roster.{roster_of}
 use Rattle.dds_trace.specs.declared.trace.Entry.{Entry}
 use Rattle.dds_trace.specs.Entries.{Traced}
-use Rattle.dds_trace.specs.History.{IsHistory, IsHistoryOf, emptied, opened}
+use Rattle.dds_trace.specs.History.{AllMeetBy, IsHistory, IsHistoryOf, emptied, opened}
 use Rattle.dds_trace.specs.Weaving.{IsHonest, none_placed, one_more}
 
 -- an entry of the peer of this number
@@ -95,6 +95,11 @@ RunsHistories ts order =
     → AreHistories config tests start ts
     → (es : List PeerEntry) × AreWoven ts (none_placed ts) order es × IsRun tests start es
 
+-- by the entries of each trace its peer meets nobody but whom the configuration has
+abbrev pub MeetByConfig : Config → List Traced → Type 0
+MeetByConfig config ts = (t : ℕ) (trace : Traced) → slice_get ts t ≡ Some trace
+    → AllMeetBy (roster_of config) trace.peer trace.entries
+
 -- ---- cores
 
 module _ {F L : Type 0} (meaning : F → Key → List ℕ → Bool) (notices : L → List Notice) (capacity : L → ℕ)
@@ -123,6 +128,7 @@ module _ {F L : Type 0} (meaning : F → Key → List ℕ → Bool) (notices : L
     pub are_woven : AreWoven ts (none_placed ts) order es
     pub run : IsRun (λ peer. tests_of meaning (cores peer).filtered.filters) start es
 
-  -- so is each honest order of their entries, where they are of different peers
+  -- so is each honest order of their entries, where they are of different peers, which meet nobody but each other's ends
   abbrev pub HonestOrdersRun : Type 0
-  HonestOrdersRun = (order : List ℕ) → AreApart ts → AreHistoriesOf → IsHonest ts order → IsRunOf order
+  HonestOrdersRun = (order : List ℕ) → AreApart ts → AreHistoriesOf → MeetByConfig config ts → IsHonest ts order
+      → IsRunOf order

@@ -122,12 +122,12 @@ module _ {F L : Type 0} (notices : L → List Notice) (capacity : L → ℕ) (be
       → StepsAt tests core.filtered.peer count
       (λ places. SlotsStandFor notices capacity becomes given core.listeners places) ev output after.filtered.peer
       (λ places. SlotsStandFor notices capacity becomes given after.listeners places)
-  core_steps given tests core ev output after count counted h roster peer s filters told sound =
+  core_steps given tests core ev output after count counted h roster peer s filters told sound met =
       let before : CoreStands notices capacity becomes given core roster peer = record {
         stands = record { stands = s; filters = filters ∙ counted };
         listeners = told;
       } in
-      let r = h.step given roster peer before sound in (
+      let r = h.step given roster peer before sound met in (
         r.0,
         r.1,
         r.2,

@@ -1,3 +1,4 @@
+pub mod Meetings
 pub mod Posted
 pub mod Replaced
 pub mod WorldSteps

@@ -31,7 +31,7 @@ use Rattle.dds_world.specs.declared.round.Matched.{Matched}
 use Rattle.dds_world.specs.declared.round.RoundReply.{RoundReply}
 use Rattle.dds_world.specs.Repairing.{Knows, IsKnown, NotMatched, Stage, Answering, Acknowledging, Beating}
 use Rattle.dds_world.specs.Round.{AreMatched, RefusesRound, IsStep, AreSteps, IsTo, HasNone, IsFirst, heartbeat_of, acknack_of, answers_at, AfterHeartbeat, AfterTick, IsRound, round_refusal}
-use Rattle.dds_world.specs.WorldStanding.{Hearing, WorldKept, StandsFor, MachineStands, KeepsRules}
+use Rattle.dds_world.specs.WorldStanding.{Hearing, WorldKept, StandsFor, MachineStands, KeepsRulesAlone}
 use Rattle.dds_world.proofs.Sends.{numbered_so}
 
 -- ---- what was sent stays
@@ -67,7 +67,7 @@ record GoesOn {hearing : Hearing} (roster : Roster) (old new : WorldKept hearing
 
 step_on : {hearing : Hearing} → (tests : AllTests) → (roster : Roster) (network : WorldState)
     (old : WorldKept hearing) (ev : WorldEvent)
-    (reply : Reply) (new : WorldKept hearing) → KeepsRules tests old ev reply new → StandsFor old roster network
+    (reply : Reply) (new : WorldKept hearing) → KeepsRulesAlone tests old ev reply new → StandsFor old roster network
     → GoesOn roster old new
 step_on tests roster network old ev reply new steps s =
     let t = steps roster network s in

@@ -29,7 +29,7 @@ use Rattle.dds_protocol.specs.Traffic.{Traffic, Sends}
 use Rattle.dds_protocol.proofs.EndsBeside.{machine_ends}
 use Rattle.dds_machine.specs.Noticing.{machine_ended}
 use Rattle.dds_machine.specs.Runs.{Steps}
-use Rattle.dds_world.specs.WorldStanding.{Hearing, WorldKept, StandsFor, MachineStandsIn, KeepsRules, traffic}
+use Rattle.dds_world.specs.WorldStanding.{Hearing, WorldKept, StandsFor, MachineStandsIn, MeetsByConfig, KeepsRules, traffic}
 use Rattle.dds_world.specs.Posting.{Announces}
 use Rattle.dds_world.specs.Acting.{Acts, RuledSteps}
 use Rattle.dds_world.proofs.Sends.{numbered_so}
@@ -46,13 +46,13 @@ sent_is kept roster network s =
 -- a step by the rules keeps them, and what is delivered at it is taken up, since claims are true
 pub rules_at : {hearing : Hearing} → {tests : AllTests} (old new : WorldKept hearing) (ev : WorldEvent) (reply : Reply)
     → RuledSteps tests old ev reply new → Announces old ev reply new → KeepsRules tests old ev reply new
-rules_at {tests} old new ev reply steps announces roster network s =
-    let t = steps roster network s in
+rules_at {tests} old new ev reply steps announces roster network s met =
+    let t = steps roster network s met in
     let sends : Sends roster (traffic_of network old.unsent) (machine_of network) ev reply (traffic_of t.0 new.unsent) =
     subst (λ (x : Traffic). Sends roster x (machine_of network) ev reply (traffic_of t.0 new.unsent))
     (sym (sent_is old roster network s))
     (subst (λ (x : Traffic). Sends roster (traffic old) (machine_of network) ev reply x)
-    (sym (sent_is new roster (world_ended network ev t.0) t.5)) (announces roster network s)) in
+    (sym (sent_is new roster (world_ended network ev t.0) t.5)) (announces roster network s met)) in
     let counted : CountedStep roster tests network old.unsent ev reply t.0 new.unsent = record {
       lost = t.1;
       ruled = t.2;
@@ -67,10 +67,10 @@ rules_at {tests} old new ev reply steps announces roster network s =
 -- it is a step of the machine that the peers are the parts of
 pub machine_steps : {hearing : Hearing} → {tests : AllTests} (old new : WorldKept hearing) (ev : WorldEvent)
     (reply : Reply)
-    → RuledSteps tests old ev reply new → Steps MachineStandsIn tests (length old.sent) old ev reply new
-machine_steps {tests} old new ev reply steps config m stands =
+    → RuledSteps tests old ev reply new → Steps MachineStandsIn MeetsByConfig tests (length old.sent) old ev reply new
+machine_steps {tests} old new ev reply steps config m stands met =
     let network = stands.0 in
-    let t = steps (roster_of config) network stands.2 in (
+    let t = steps (roster_of config) network stands.2 met in (
       machine_of t.0,
       subst (λ (x : Machine). Step tests (length old.sent) x ev reply (machine_of t.0)) stands.1 t.4,
       (
@@ -121,7 +121,7 @@ called {tests} kept new i peer call reply is a =
     subst (λ (n : ℕ). RuledSteps tests kept (world.Call n call) reply new) (number_is peer i is)
     (acts_ruled kept new i (event.Call call)
     (world.Call (suc i) call) reply refl (calls_at tests kept.sent (suc i) call) a
-    (call_dues kept new i call reply a))
+    (call_dues kept new i call reply a) (λ roster met. met))
 
 -- ---- a tick
 
@@ -165,7 +165,7 @@ pub ticked : {hearing : Hearing} → {tests : AllTests} → (kept new : WorldKep
 ticked {tests} kept new i peer now reply is a =
     subst (λ (n : ℕ). RuledSteps tests kept (world.Tick n now) reply new) (number_is peer i is)
     (acts_ruled kept new i (event.Tick now) (world.Tick (suc i) now) reply refl (ticks_at tests kept.sent (suc i) now) a
-    (tick_dues kept new i now reply a))
+    (tick_dues kept new i now reply a) (λ roster met. tt))
 
 -- ---- a delivery
 
@@ -204,7 +204,7 @@ taken_up {tests} kept new i j packet reply at a =
     acts_ruled kept new i (event.Deliver packet.bytes)
     (world.Deliver (suc i) (j + 1)) reply refl (delivers_at tests kept.sent (suc i) (j + 1) packet (omega arith)
     (found_at kept.sent j packet at)) a
-    (delivery_dues kept new i j packet reply at a)
+    (delivery_dues kept new i j packet reply at a) (λ roster met. tt)
 
 pub delivered : {hearing : Hearing} → {tests : AllTests} → (kept new : WorldKept hearing) (i j : ℕ) (packet : Packet)
     (reply : Reply)
@@ -242,4 +242,4 @@ resumed {tests} kept new i peer reader reply is a =
     subst (λ (n : ℕ). RuledSteps tests kept (world.Resume n reader) reply new) (number_is peer i is)
     (acts_ruled kept new i (event.Resume reader)
     (world.Resume (suc i) reader) reply refl (resumes_at tests kept.sent (suc i) reader) a
-    (resume_dues kept new i reader reply a))
+    (resume_dues kept new i reader reply a) (λ roster met. tt))

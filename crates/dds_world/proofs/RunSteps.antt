@@ -14,7 +14,9 @@ use Rattle.dds_protocol.specs.Rules.{CountedStep, RuledRun}
 use Rattle.dds_machine.specs.Runs.{Run, Runs}
 use Rattle.dds_protocol.specs.World.{WorldState, machine_of}
 use Rattle.dds_protocol.proofs.RunLaws.{machine_runs}
-use Rattle.dds_world.specs.WorldStanding.{Hearing, WorldKept, StandsFor, MachineStandsIn, KeepsRules, RunsByRules}
+use Rattle.dds_protocol.specs.Meetings.{MeetsInNetwork}
+use Rattle.dds_world.proofs.Meetings.{each_before}
+use Rattle.dds_world.specs.WorldStanding.{Hearing, WorldKept, StandsFor, MachineStandsIn, MeetsByConfig, KeepsRules, KeepsRulesAlone, RunsByRules}
 
 -- a run with one more step
 run_more : (roster : Roster) (tests : AllTests) (a b c : WorldState) (k m n : ℕ) (events : List WorldEvent)
@@ -50,7 +52,7 @@ ended {network = network} {ev = ev} w = world_ended network ev w.after
 
 pub went_by : {hearing : Hearing} → {tests : AllTests}
     → (roster : Roster) (network : WorldState) (old : WorldKept hearing) (ev : WorldEvent) (reply : Reply) (new : WorldKept hearing)
-    → KeepsRules tests old ev reply new → StandsFor old roster network
+    → KeepsRulesAlone tests old ev reply new → StandsFor old roster network
     → Went tests roster network old ev reply new
 went_by roster network old ev reply new rules s =
     let t = rules roster network s in
@@ -58,20 +60,21 @@ went_by roster network old ev reply new rules s =
 
 pub runs_none : {hearing : Hearing} → {tests : AllTests} → (kept : WorldKept hearing)
     → RunsByRules tests kept [] [] kept
-runs_none kept = record { run = λ roster network s. (network, (refl, refl), s) }
+runs_none kept = record { run = λ roster network s met. (network, (refl, refl), s) }
 
 pub runs_more : {hearing : Hearing} → {tests : AllTests}
     → (kept mid new : WorldKept hearing) (events : List WorldEvent) (replies : List Reply) (ev : WorldEvent) (reply : Reply)
-    → RunsByRules tests kept events replies mid → KeepsRules tests mid ev reply new
+    → length events ≡ length replies → RunsByRules tests kept events replies mid → KeepsRules tests mid ev reply new
     → RunsByRules tests kept (events ++ ev ∷ []) (replies ++ reply ∷ []) new
-runs_more {tests} kept mid new events replies ev reply runs rules = record {
-  run = λ roster network s.
-      let r = runs.run roster network s in
-      let w = went_by roster r.0 mid ev reply new rules r.2 in
+runs_more {tests} kept mid new events replies ev reply same runs rules = record {
+  run = λ roster network s met.
+      let before = each_before (MeetsInNetwork roster) events replies ev reply same met in
+      let r = runs.run roster network s before.0 in
+      let w = rules roster r.0 r.2 before.1 in
       let run =
-      run_more roster tests network r.0 w.after kept.unsent mid.unsent new.unsent events replies ev reply r.1 w.step
+      run_more roster tests network r.0 w.0 kept.unsent mid.unsent new.unsent events replies ev reply r.1 w.1
       in
-      let end : WorldState = world_ended r.0 ev w.after in (end, run, w.stands);
+      let end : WorldState = world_ended r.0 ev w.0 in (end, run, w.2);
 }
 
 -- ---- of the machine
@@ -101,9 +104,9 @@ machine_run tests old new events replies roster m network after is s t run =
 pub runs_of_machine : {hearing : Hearing} → {tests : AllTests} → (old new : WorldKept hearing)
     (events : List WorldEvent) (replies : List Reply)
     → RunsByRules tests old events replies new
-    → Runs MachineStandsIn tests (length old.sent) old events replies (length new.sent) new
-runs_of_machine {tests} old new events replies runs config m stands =
-    let r = runs.run (roster_of config) stands.0 stands.2 in (
+    → Runs MachineStandsIn MeetsByConfig tests (length old.sent) old events replies (length new.sent) new
+runs_of_machine {tests} old new events replies runs config m stands met =
+    let r = runs.run (roster_of config) stands.0 stands.2 met in (
       machine_of r.0,
       machine_run tests old new events replies (roster_of config) m stands.0 r.0 stands.1 stands.2 r.2 r.1,
       (r.0, refl, r.2),

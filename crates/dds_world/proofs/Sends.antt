@@ -29,6 +29,8 @@ use Rattle.dds_core.specs.Sending.{SendsNothing, SendsChange, SendsFor, due_at_t
 use Rattle.dds_core.proofs.CallSteps.{number_is, refused_nothing}
 use Rattle.dds_ends.proofs.Lists.{get-within}
 use Rattle.dds_world.specs.WorldStanding.{Hearing, WorldKept, StandsFor, traffic}
+use Rattle.dds_protocol.specs.Meetings.{MeetsByRoster}
+use Rattle.dds_world.proofs.Meetings.{met_at}
 use Rattle.dds_world.specs.Posting.{Posts, Announces}
 use Rattle.dds_world.specs.Acting.{Acts, Counts, IsQuiet}
 use Rattle.dds_world.proofs.Posted.{lost_in_all, lost_is, posted_count, posted_on}
@@ -140,20 +142,21 @@ numbered_so kept roster network i core s at =
 -- the event of the peer of this index follows the rules of the protocol
 rules_of : {hearing : Hearing} → {tests : AllTests} → (kept new : WorldKept hearing) (i : ℕ) (ev : Event)
     (reply : Reply) (a : Acts tests kept i ev reply new) (roster : Roster) (network : WorldState)
-    → StandsFor kept roster network
+    → StandsFor kept roster network → MeetsByRoster roster (suc i) ev reply
     → (after : Peer) × CoreKeepsRules roster (get_or network.peers i no_peer) ev a.acts.output after
-rules_of kept new i ev reply a roster network s =
+rules_of kept new i ev reply a roster network s met =
     let acts = a.acts in
     let r =
     acts.steps roster (get_or network.peers i no_peer) (s.each i acts.core acts.at) (s.filters i)
-    (s.listeners i acts.slots acts.slots_at) (s.known i acts.core acts.at) in
+    (s.listeners i acts.slots acts.slots_at) (s.known i acts.core acts.at)
+    (met_at kept roster network i acts.core ev reply acts.output.reply s acts.at acts.replies met) in
     (r.0, r.2)
 
 -- what is sent at a call of the peer of this index
 call_sends : {hearing : Hearing} → {tests : AllTests} → (kept new : WorldKept hearing) (i : ℕ) (c : Call)
     (reply : Reply)
     → Acts tests kept i (event.Call c) reply new → Announces kept (world.Call (suc i) c) reply new
-call_sends kept new i c reply a roster network s =
+call_sends kept new i c reply a roster network s met =
     let acts = a.acts in
     let old : Traffic = traffic kept in
     let peer : Peer = get_or network.peers i no_peer in
@@ -165,7 +168,7 @@ call_sends kept new i c reply a roster network s =
     let contacts : ℕ → Endpoint → Contact = peer.known.answered in
     let sent : SendsAt roster old contacts peer.number peer.part effect (traffic new) =
     effect_sends kept new roster peer effect output acts.posts a.counts a.quiet
-    (rules_of kept new i (event.Call c) reply a roster network s).1 in
+    (rules_of kept new i (event.Call c) reply a roster network s met).1 in
     let replied : SendsAt roster old contacts peer.number peer.part (effect_of peer.part c reply) (traffic new) =
     subst (λ (r : Reply). SendsAt roster old contacts peer.number peer.part (effect_of peer.part c r) (traffic new))
     (sym acts.replies) sent in
@@ -210,7 +213,7 @@ machine_ticks roster old new contacts network peer now reply h = h
 
 ticks_sent : {hearing : Hearing} → {tests : AllTests} → (kept new : WorldKept hearing) (i now : ℕ) (reply : Reply)
     → Acts tests kept i (event.Tick now) reply new → Announces kept (world.Tick (suc i) now) reply new
-ticks_sent kept new i now reply a roster network s =
+ticks_sent kept new i now reply a roster network s met =
     let acts = a.acts in
     let old : Traffic = traffic kept in
     let peer : Peer = get_or network.peers i no_peer in
@@ -220,7 +223,7 @@ ticks_sent kept new i now reply a roster network s =
     let contacts : ℕ → Endpoint → Contact = peer.known.answered in
     let sent : TicksAt roster old contacts peer.number peer.part acts.output.reply (traffic new) =
     tick_sends kept new roster peer acts.output.reply acts.output acts.posts a.counts a.quiet
-    (rules_of kept new i (event.Tick now) reply a roster network s).1 in
+    (rules_of kept new i (event.Tick now) reply a roster network s tt).1 in
     let replied : TicksAt roster old contacts peer.number peer.part reply (traffic new) =
     subst (λ (r : Reply). TicksAt roster old contacts peer.number peer.part r (traffic new)) (sym acts.replies) sent in
     machine_ticks roster old (traffic new) contacts network (suc i) now reply
@@ -245,9 +248,9 @@ reported roster old new network peer number reply report is dues h = absurd cc
 pub delivered_sends : {hearing : Hearing} → {tests : AllTests} → (kept new : WorldKept hearing) (i peer number : ℕ)
     (bytes : List ℕ) (reply : Reply)
     → Acts tests kept i (event.Deliver bytes) reply new → Announces kept (world.Deliver peer number) reply new
-delivered_sends kept new i peer number bytes reply a roster network s =
+delivered_sends kept new i peer number bytes reply a roster network s met =
     let acts = a.acts in
-    let rules = (rules_of kept new i (event.Deliver bytes) reply a roster network s).1 in
+    let rules = (rules_of kept new i (event.Deliver bytes) reply a roster network s tt).1 in
     reported roster (traffic kept) (traffic new) network peer number reply rules.report
     (acts.replies ∙ rules.reply) rules.dues
     (dues_sent kept new rules.dues acts.output acts.posts a.counts rules.sent)
@@ -257,26 +260,26 @@ delivered_sends kept new i peer number bytes reply a roster network s =
 pub resumed_sends : {hearing : Hearing} → {tests : AllTests} → (kept new : WorldKept hearing) (i peer reader : ℕ)
     (reply : Reply)
     → Acts tests kept i (event.Resume reader) reply new → Announces kept (world.Resume peer reader) reply new
-resumed_sends kept new i peer reader reply a roster network s =
+resumed_sends kept new i peer reader reply a roster network s met =
     same_traffic kept new a.acts.output a.quiet
-    (rules_of kept new i (event.Resume reader) reply a roster network s).1.0
+    (rules_of kept new i (event.Resume reader) reply a roster network s tt).1.0
 
 -- what is refused sends nothing
 
 pub refused_call_sends : {hearing : Hearing} → (kept : WorldKept hearing) (peer : ℕ) (c : Call)
     → Announces kept (world.Call peer c) (Refused BadParameter) kept
-refused_call_sends kept peer c roster network s =
+refused_call_sends kept peer c roster network s met =
     subst (λ (e : Effect). SendsOf roster (traffic kept) (machine_of network) peer e (traffic kept))
     (sym (refused_nothing (part_at (machine_of network) peer) c BadParameter)) refl
 
 pub refused_tick_sends : {hearing : Hearing} → (kept : WorldKept hearing) (peer now : ℕ)
     → Announces kept (world.Tick peer now) (Refused BadParameter) kept
-refused_tick_sends kept peer now roster network s = refl
+refused_tick_sends kept peer now roster network s met = refl
 
 pub refused_delivery_sends : {hearing : Hearing} → (kept : WorldKept hearing) (peer number : ℕ)
     → Announces kept (world.Deliver peer number) (Refused BadParameter) kept
-refused_delivery_sends kept peer number roster network s = refl
+refused_delivery_sends kept peer number roster network s met = refl
 
 pub refused_resume_sends : {hearing : Hearing} → (kept : WorldKept hearing) (peer reader : ℕ)
     → Announces kept (world.Resume peer reader) (Refused BadParameter) kept
-refused_resume_sends kept peer reader roster network s = refl
+refused_resume_sends kept peer reader roster network s met = refl

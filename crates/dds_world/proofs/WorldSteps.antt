@@ -39,6 +39,8 @@ use Rattle.dds_ends.proofs.Lists.{get-within}
 use Rattle.dds_world.specs.WorldStanding.{Hearing, WorldKept, StandsFor}
 use Rattle.dds_world.specs.Posting.{ArePosted, Posts}
 use Rattle.dds_world.specs.Acting.{Acts, RuledSteps}
+use Rattle.dds_protocol.specs.Meetings.{MeetsByRoster, MeetsInNetwork}
+use Rattle.dds_world.proofs.Meetings.{met_at}
 use Rattle.dds_world.proofs.Posted.{lost_is, posted_on}
 use Rattle.dds_world.proofs.Replaced.{ended_at, peer_stands, same_at, with_peer}
 
@@ -166,13 +168,15 @@ pub acts_ruled : {hearing : Hearing} → {tests : AllTests} → (kept new : Worl
     (whole : WorldEvent) (reply : Reply)
     → peer_of whole ≡ suc i → IsEventOf tests kept.sent ev (suc i) whole → (a : Acts tests kept i ev reply new)
     → SendsItsDues tests kept i ev whole reply new a
+    → ((roster : Roster) → MeetsInNetwork roster whole reply → MeetsByRoster roster (suc i) ev reply)
     → RuledSteps tests kept whole reply new
-acts_ruled {hearing} {tests} kept new i ev whole reply its into acts sends roster network s =
+acts_ruled {hearing} {tests} kept new i ev whole reply its into acts sends meets roster network s met =
     let a = acts.acts in
     let core : CoreStandsFor a.core roster (get_or network.peers i no_peer) = s.each i a.core a.at in
     let r =
     a.steps roster (get_or network.peers i no_peer) core (s.filters i) (s.listeners i a.slots a.slots_at)
-    (s.known i a.core a.at) in
+    (s.known i a.core a.at)
+    (met_at kept roster network i a.core ev reply a.output.reply s a.at a.replies (meets roster met)) in
     let next : WorldState = with_peer network i r.0 new.sent in
     let low : i < length kept.peers = get-within kept.peers i a.core a.at in
     let count = s.count in
@@ -291,7 +295,7 @@ stays {tests} kept roster network ev s step none =
 pub unknown_call : {hearing : Hearing} → {tests : AllTests} → (kept : WorldKept hearing) (peer : ℕ) (call : Call)
     → (nat_lt 0 peer && nat_le peer (length kept.peers)) ≡ false
     → RuledSteps tests kept (world.Call peer call) (Refused BadParameter) kept
-unknown_call kept peer call none roster network s =
+unknown_call kept peer call none roster network s met =
     stays kept roster network (world.Call peer call) s
     (inr (λ has. nobody kept roster network peer s none has, record { is_refused = refl; after = refl }))
     (sym (ap (λ (e : Effect). announcements_due roster peer (state_of (peer_at network peer)) e)
@@ -300,14 +304,14 @@ unknown_call kept peer call none roster network s =
 pub unknown_tick : {hearing : Hearing} → {tests : AllTests} → (kept : WorldKept hearing) (peer now : ℕ)
     → (nat_lt 0 peer && nat_le peer (length kept.peers)) ≡ false
     → RuledSteps tests kept (world.Tick peer now) (Refused BadParameter) kept
-unknown_tick kept peer now none roster network s =
+unknown_tick kept peer now none roster network s met =
     stays kept roster network (world.Tick peer now) s
     (inr (λ has. nobody kept roster network peer s none has, record { is_refused = refl; after = refl })) refl
 
 pub unknown_delivery : {hearing : Hearing} → {tests : AllTests} → (kept : WorldKept hearing) (peer number : ℕ)
     → (nat_lt 0 peer && nat_le peer (length kept.peers)) ≡ false
     → RuledSteps tests kept (world.Deliver peer number) (Refused BadParameter) kept
-unknown_delivery kept peer number none roster network s =
+unknown_delivery kept peer number none roster network s met =
     stays kept roster network (world.Deliver peer number) s
     (inr (
       inr (inr (λ has. nobody kept roster network peer s none has)),
@@ -317,7 +321,7 @@ unknown_delivery kept peer number none roster network s =
 pub unknown_packet : {hearing : Hearing} → {tests : AllTests} → (kept : WorldKept hearing) (peer number : ℕ)
     → (nat_lt 0 number && nat_le number (length kept.sent)) ≡ false
     → RuledSteps tests kept (world.Deliver peer number) (Refused BadParameter) kept
-unknown_packet kept peer number none roster network s =
+unknown_packet kept peer number none roster network s met =
     let count = ap (λ (ps : List Packet). length ps) s.sent in
     let why : (number ≡ 0) ⊎ (length network.sent < number) ⊎ (HasNumber network.peers peer → ⊥) =
     ⊎_elim (λ z. inl z) (λ past. inr (inl (omega (arith, past, count)))) (no_such number (length kept.sent) none) in
@@ -326,6 +330,6 @@ unknown_packet kept peer number none roster network s =
 pub unknown_resume : {hearing : Hearing} → {tests : AllTests} → (kept : WorldKept hearing) (peer reader : ℕ)
     → (nat_lt 0 peer && nat_le peer (length kept.peers)) ≡ false
     → RuledSteps tests kept (world.Resume peer reader) (Refused BadParameter) kept
-unknown_resume kept peer reader none roster network s =
+unknown_resume kept peer reader none roster network s met =
     stays kept roster network (world.Resume peer reader) s
     (inr (λ has. nobody kept roster network peer s none has, record { is_refused = refl; after = refl })) refl

@@ -15,6 +15,7 @@ use Rattle.dds_protocol.specs.declared.event.Output.{Output}
 use Rattle.dds_machine.specs.declared.event.WorldEvent.{WorldEvent}
 use Rattle.dds_machine.specs.declared.reply.Reply.{Reply}
 use Rattle.dds_machine.specs.Machine.{AllTests, Step}
+use Rattle.dds_protocol.specs.Meetings.{MeetsByRoster, MeetsInNetwork}
 use Rattle.dds_protocol.specs.Rules.{RuledStep}
 use Rattle.dds_protocol.specs.World.{WorldState, machine_of}
 use Rattle.dds_protocol.specs.Roster.{Roster, roster_of}
@@ -37,13 +38,13 @@ Counts old output new = (lost : ℕ) × (length new.sent + lost ≡ length old.s
 abbrev pub IsQuiet : {hearing : Hearing} → WorldKept hearing → Output → WorldKept hearing → Type 0
 IsQuiet old output new = SendsNothing output → (new.sent ≡ old.sent) × (new.unsent ≡ old.unsent)
 
--- For each state that a peer's old values stand for, and of which all that is known was claimed, the event is a step
--- which follows the rules of the protocol; the new values stand for the state at its end, once listeners were told, and
+-- For each state that a peer's old values stand for, and of which all that is known was claimed, the event, by which the
+-- peer meets nobody but whom the roster has, is a step which follows the rules of the protocol; the new values stand for the state at its end, once listeners were told, and
 -- all that is known of that was claimed.
 abbrev pub StepsAt : Tests → PeerKept → ℕ → (Places → Type 0) → Event → Output → PeerKept → (Places → Type 0) → Type 0
 StepsAt tests core filters AreTold event output after TheyAreTold =
     (roster : Roster) (peer : Peer) → CoreStandsFor core roster peer → peer.part.dds.watch.filters ≡ filters
-    → AreTold peer.part.dds.listeners → IsSound roster peer
+    → AreTold peer.part.dds.listeners → IsSound roster peer → MeetsByRoster roster peer.number event output.reply
     → (stepped : Peer) × PeerStep roster tests peer event output stepped
     × CoreKeepsRules roster peer event output stepped
     × CoreStandsFor after roster (peer_at_end peer stepped)
@@ -91,6 +92,7 @@ pub record OpensFirst {F L : Type 0} (notices : L → List Notice) (capacity : L
 abbrev pub RuledSteps : {hearing : Hearing} → AllTests → WorldKept hearing → WorldEvent → Reply → WorldKept hearing
     → Type 0
 RuledSteps tests old event reply new = (roster : Roster) (network : WorldState) → StandsFor old roster network
+    → MeetsInNetwork roster event reply
     → (after : WorldState) × (lost : ℕ) × RuledStep roster tests network event reply lost after
     × (new.unsent ≡ min (old.unsent + lost) (2 ^ 64 - 1))
     × Step tests (length old.sent) (machine_of network) event reply (machine_of after)

@@ -7,6 +7,7 @@ use Rattle.dds_protocol.specs.Roster.{Roster}
 use Rattle.dds_protocol.specs.declared.event.Packet.{Packet}
 use Rattle.dds_machine.specs.declared.event.WorldEvent.{WorldEvent}
 use Rattle.dds_machine.specs.declared.reply.Reply.{Reply}
+use Rattle.dds_protocol.specs.Meetings.{MeetsInNetwork}
 use Rattle.dds_protocol.specs.Traffic.{Sends}
 use Rattle.dds_protocol.specs.World.{WorldState, machine_of}
 use Rattle.dds_world.specs.WorldStanding.{Hearing, WorldKept, StandsFor, traffic}
@@ -28,8 +29,9 @@ pub record Posts (old : List Packet) (packets : List Packet) (new : List Packet)
   pub fewer : length posted ≤ length packets
   pub different : AllPairs (λ (a b : Packet). a.to ≢ b.to) packets → AllPairs (λ (a b : Packet). a.to ≢ b.to) posted
 
--- For each state that the old network stands for, this is what is sent at the event.
+-- For each state that the old network stands for, and whose roster has whom a peer meets, this is what is sent at the
+-- event.
 abbrev pub Announces : {hearing : Hearing} → WorldKept hearing → WorldEvent → Reply → WorldKept hearing → Type 0
 Announces old event reply new =
-    (roster : Roster) (network : WorldState) → StandsFor old roster network
+    (roster : Roster) (network : WorldState) → StandsFor old roster network → MeetsInNetwork roster event reply
     → Sends roster (traffic old) (machine_of network) event reply (traffic new)

@@ -33,7 +33,7 @@ use Rattle.dds_protocol.specs.DueMessages.{reader_entity, writer_entity}
 use Rattle.dds_protocol.specs.World.{WorldState, peer_at, machine_of}
 use Rattle.dds_world.specs.declared.round.Round.{Round}
 use Rattle.dds_world.specs.declared.round.RoundReply.{RoundReply}
-use Rattle.dds_world.specs.WorldStanding.{Hearing, WorldKept, StandsFor, KeepsRules}
+use Rattle.dds_world.specs.WorldStanding.{Hearing, WorldKept, StandsFor, KeepsRulesAlone}
 
 -- the two are matched at both sides: the writer has a row of the reader, and the reader is matched with the writer
 abbrev pub is_pair_matched : Machine → Endpoint → Endpoint → Bool
@@ -61,7 +61,7 @@ AreMatched kept writer reader =
 pub record IsStep {hearing : Hearing} (tests : AllTests) (old : WorldKept hearing) (event : WorldEvent)
     (reply : RoundReply)
     (new : WorldKept hearing) : Type 0 where
-  pub rules : KeepsRules tests old event reply.reply new
+  pub rules : KeepsRulesAlone tests old event reply.reply new
   pub sent : reply.sent ≡ length new.sent
   pub unsent : reply.unsent ≡ new.unsent
 

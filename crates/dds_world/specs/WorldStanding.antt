@@ -11,6 +11,8 @@ use Rattle.dds_protocol.specs.declared.event.Packet.{Packet}
 use Rattle.dds_machine.specs.declared.event.WorldEvent.{WorldEvent}
 use Rattle.dds_machine.specs.declared.reply.Reply.{Reply}
 use Rattle.dds_machine.specs.Machine.{AllTests, Machine}
+use Rattle.dds_machine.specs.Runs.{OfEach}
+use Rattle.dds_protocol.specs.Meetings.{MeetsInNetwork}
 use Rattle.dds_protocol.specs.Bounds.{IsBounded}
 use Rattle.dds_protocol.specs.Fresh.{HasUsedCounts}
 use Rattle.dds_protocol.specs.Rules.{CountedStep, RuledRun}
@@ -69,20 +71,34 @@ MachineStandsIn kept config m = MachineStands kept (roster_of config) m
 abbrev pub traffic : {hearing : Hearing} → WorldKept hearing → Traffic
 traffic kept = record { sent = kept.sent; unsent = kept.unsent }
 
--- For each state that the old network stood for, the event is a step of its peers by the rules of the protocol, which
--- say which messages are due, and of these each is sent, in their order, or counted; it is a step of the machine that
--- the peers are the parts of; and the new network stands for the state at its end, once listeners were told.
+-- whom a peer meets by the event, the configuration has
+abbrev pub MeetsByConfig : Config → WorldEvent → Reply → Type 0
+MeetsByConfig config event reply = MeetsInNetwork (roster_of config) event reply
+
+-- For each state that the old network stood for, and whose roster has whom a peer meets by the event, it is a step of its
+-- peers by the rules of the protocol, which say which messages are due, and of these each is sent, in their order, or
+-- counted; it is a step of the machine that the peers are the parts of; and the new network stands for the state at its
+-- end, once listeners were told.
 abbrev pub KeepsRules : {hearing : Hearing} → AllTests → WorldKept hearing → WorldEvent → Reply → WorldKept hearing
     → Type 0
 KeepsRules tests old event reply new = (roster : Roster) (network : WorldState) → StandsFor old roster network
+    → MeetsInNetwork roster event reply
     → (after : WorldState) × CountedStep roster tests network old.unsent event reply after new.unsent
     × StandsFor new roster (world_ended network event after)
 
--- For each state that the old network stood for, these replies to the events are a run of its peers by the rules of the
--- protocol, and the new network stands for the state afterwards.
+-- the same of an event by which nobody is met
+abbrev pub KeepsRulesAlone : {hearing : Hearing} → AllTests → WorldKept hearing → WorldEvent → Reply → WorldKept hearing
+    → Type 0
+KeepsRulesAlone tests old event reply new = (roster : Roster) (network : WorldState) → StandsFor old roster network
+    → (after : WorldState) × CountedStep roster tests network old.unsent event reply after new.unsent
+    × StandsFor new roster (world_ended network event after)
+
+-- For each state that the old network stood for, and whose roster has whom its peers meet, these replies to the events
+-- are a run of its peers by the rules of the protocol, and the new network stands for the state afterwards.
 pub record RunsByRules {hearing : Hearing} (tests : AllTests) (old : WorldKept hearing) (events : List WorldEvent)
     (replies : List Reply)
     (new : WorldKept hearing) : Type 0 where
   pub run : (roster : Roster) (network : WorldState) → StandsFor old roster network
+      → OfEach (MeetsInNetwork roster) events replies
       → (after : WorldState) × RuledRun roster tests network old.unsent events replies after new.unsent
       × StandsFor new roster after

@@ -5,6 +5,7 @@
 ghost use Rattle.std.specs.Prelude.{◌≡◌, ℕ, ◌++◌, ◌+◌, ◌<◌, ◌≤◌, ◌↔◌, min, [], ◌∷◌, length, vec_len, vec_capacity, IsTrue, IfOk, IfErr, IfSome, OnErr, MatchOption};
 ghost use Rattle.dds_notices.specs.Listeners.{ByEntity};
 ghost use Rattle.dds_world.specs.declared.round.RoundReply.{RoundReply as ReplyOf};
+ghost use Rattle.dds_protocol.specs.Meetings.{NobodyIn};
 ghost use Rattle.dds_world.specs.Round.{AreMatched, HasNone, IsFirst, IsTo, RefusesRound, RoundRuns, Rounds};
 ghost use Rattle.dds_world.specs.Holding.{MachineStandsFor, filters_of, kept_of, tests_in};
 ghost use Rattle.dds_world.specs.Repairing.{Acknowledging, AddsIn, Answering, Beating, IsKnown, IsStepIn, NotMatched};
@@ -203,8 +204,9 @@ impl<F: Filter, L: Listener> World<F, L> {
         None
     }
 
-    /// One event, whose reply is added.
+    /// One event by which nobody is met, whose reply is added.
     fn add_step(&mut self, event: WorldEvent, replies: &mut Vec<RoundReply>)
+        requires quiet { NobodyIn event }
         requires room { vec_len replies.old < vec_capacity replies.old }
         ensures step { (reply : ReplyOf) × (replies.new.items ≡ replies.old.items ++ reply ∷ [])
             × IsStepIn F.meaning L.notices L.capacity L.becomes self.old event reply self.new }

@@ -19,7 +19,7 @@ ghost use Rattle.dds_machine.specs.Numbered.{numbered};
 ghost use Rattle.dds_protocol.specs.Opening.{opening_world};
 ghost use Rattle.dds_core.specs.Opening.{opening_peer};
 ghost use Rattle.dds_core.specs.Listening.{StandsFor as CoreStandsFor, no_listeners};
-ghost use Rattle.dds_world.specs.WorldStanding.{KeepsRules, MachineStands, RunsByRules, StandsFor, traffic};
+ghost use Rattle.dds_world.specs.WorldStanding.{KeepsRules, MachineStands, MeetsByConfig, RunsByRules, StandsFor, traffic};
 ghost use Rattle.dds_world.specs.Posting.{Posts};
 ghost use Rattle.dds_world.specs.Acting.{Counts, IsQuiet, OpensFirst};
 ghost use Rattle.dds_world.specs.Holding.{Adds, RefusesFilter, RefusesListener, Sets, MachineStandsFor, filters_of, kept_of, none_given, tests_by, tests_in};
@@ -183,7 +183,7 @@ impl<F: Filter, L: Listener> World<F, L> {
         // Whatever listeners the peers were given: for each machine that the network stands for, the reply is one that
         // the machine without packets gives, by what the filters mean, and the network stands for the machine at the
         // event's end, once listeners were told: this is the theorem.
-        ensures step { (given : ℕ → ByEntity L) → Steps (MachineStandsFor L.notices L.capacity L.becomes given)
+        ensures step { (given : ℕ → ByEntity L) → Steps (MachineStandsFor L.notices L.capacity L.becomes given) MeetsByConfig
             (tests_by F.meaning (map (λ core. core.filtered.filters) self.old.cores)) (length self.old.sent)
             self.old event result self.new }
         // The event is one by the rules of the protocol, by which that is so: each message that they make due is sent,
@@ -206,7 +206,7 @@ impl<F: Filter, L: Listener> World<F, L> {
         // The replies are a run of the machine without packets.
         ensures run { IfOk result
             (λ replies. (given : ℕ → ByEntity L) → Runs (MachineStandsFor L.notices L.capacity L.becomes given)
-            (tests_in F.meaning self.old) (length self.old.sent) self.old events.items replies
+            MeetsByConfig (tests_in F.meaning self.old) (length self.old.sent) self.old events.items replies
             (length self.new.sent) self.new) }
         // They are one of the network's peers by the rules of the protocol.
         ensures rules { IfOk result

@@ -2,7 +2,6 @@ use Rattle.std.proofs.Common.{◌≡◌, true, length, ap, arith, refl, rules}
 use Rattle.dds_conditions.specs.Filtered.{tests_of}
 use Rattle.dds_log.specs.Logs.{Logged}
 use Rattle.dds_protocol.specs.declared.event.Event.TheVariants.{Deliver}
-use Rattle.dds_protocol.specs.Roster.{roster_of}
 use Rattle.dds_trace.specs.declared.trace.Entry.{Entry}
 use Rattle.dds_trace.specs.Uses.{in_use_of}
 use Rattle.dds_trace.proofs.Uses.{one_more}
@@ -28,7 +27,7 @@ invariant_of-self g c =
     let room = c.has_room.ensures.room free in
     let was_used = ap (λ (k : Kept g.row.F.Denot g.row.L.Denot). in_use_of k.core) c.self.view_is in
     let was_long = ap (λ (k : Kept g.row.F.Denot g.row.L.Denot). length k.entries) c.self.view_is in
-    let more = one_more g.L.Listener.notices g.L.Listener.capacity g.L.Listener.becomes given tests (roster_of g.N.Named.config) peer
+    let more = one_more g.L.Listener.notices g.L.Listener.capacity g.L.Listener.becomes given tests kept.history.roster peer
     old.core core (Deliver c.args.octets.now) output kept.history.stands kept.history.sound step in
     let logged = c.record_delivery.ensures.log in (
       goes_on g.F.Filter.meaning g.L.Listener.notices g.L.Listener.capacity g.L.Listener.becomes g.N.Named.filters

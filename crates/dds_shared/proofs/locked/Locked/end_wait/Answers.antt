@@ -6,7 +6,6 @@ use Rattle.dds_log.specs.Logs.{Logged}
 use Rattle.dds_machine.specs.declared.call.Call.TheVariants.{WaitEnd}
 use Rattle.dds_protocol.specs.declared.event.Event.{Event}
 use Rattle.dds_protocol.specs.declared.event.Event.TheVariants.{Call}
-use Rattle.dds_protocol.specs.Roster.{roster_of}
 use Rattle.dds_trace.specs.declared.trace.Entry.{Entry}
 use Rattle.dds_trace.specs.History.{entry_of}
 use Rattle.dds_trace.proofs.Uses.{ends_one}
@@ -20,7 +19,7 @@ pub returns-then-not-is_in_use-clause-unused : goal.returns-then-not-is_in_use-c
 returns-then-not-is_in_use-clause-unused g c used =
     let kept = c.self.invariant.0 in
     let told = use_told g.L.Listener.notices g.L.Listener.capacity g.L.Listener.becomes (listeners_in g.N.Named.slots)
-    c.self.inside.core (roster_of g.N.Named.config) kept.history.peer c.args.wait_set c.is_in_use.result kept.history.stands
+    c.self.inside.core kept.history.roster kept.history.peer c.args.wait_set c.is_in_use.result kept.history.stands
     c.is_in_use.ensures.used in
     let free : c.is_in_use.result ≡ false = search rules in
     let here = ap (λ (k : Kept g.row.F.Denot g.row.L.Denot).
@@ -32,11 +31,11 @@ pub push-requires : goal.push-requires
 push-requires g c =
     let kept = c.self.invariant.0 in
     let told = use_told g.L.Listener.notices g.L.Listener.capacity g.L.Listener.becomes (listeners_in g.N.Named.slots)
-    c.self.inside.core (roster_of g.N.Named.config) kept.history.peer c.args.wait_set c.is_in_use.result kept.history.stands
+    c.self.inside.core kept.history.roster kept.history.peer c.args.wait_set c.is_in_use.result kept.history.stands
     c.is_in_use.ensures.used in
     let used : c.is_in_use.result ≡ true = search rules in
     let counts = ends_one g.L.Listener.notices g.L.Listener.capacity g.L.Listener.becomes (listeners_in g.N.Named.slots)
-    (tests_of g.F.Filter.meaning c.self.inside.core.filtered.filters) (roster_of g.N.Named.config) kept.history.peer
+    (tests_of g.F.Filter.meaning c.self.inside.core.filtered.filters) kept.history.roster kept.history.peer
     c.self.inside.core c.step-output.new.core c.args.wait_set c.step-output.result.0 kept.history.stands
     kept.history.sound (sym told ∙ used) c.step-output.ensures.step in
     record { room = omega (arith, counts.0, kept.room) }
@@ -45,11 +44,11 @@ pub record-requires-clause-countable : goal.record-requires-clause-countable
 record-requires-clause-countable g c =
     let kept = c.self.invariant.0 in
     let told = use_told g.L.Listener.notices g.L.Listener.capacity g.L.Listener.becomes (listeners_in g.N.Named.slots)
-    c.self.inside.core (roster_of g.N.Named.config) kept.history.peer c.args.wait_set c.is_in_use.result kept.history.stands
+    c.self.inside.core kept.history.roster kept.history.peer c.args.wait_set c.is_in_use.result kept.history.stands
     c.is_in_use.ensures.used in
     let used : c.is_in_use.result ≡ true = search rules in
     let counts = ends_one g.L.Listener.notices g.L.Listener.capacity g.L.Listener.becomes (listeners_in g.N.Named.slots)
-    (tests_of g.F.Filter.meaning c.self.inside.core.filtered.filters) (roster_of g.N.Named.config) kept.history.peer
+    (tests_of g.F.Filter.meaning c.self.inside.core.filtered.filters) kept.history.roster kept.history.peer
     c.self.inside.core c.step-output.new.core c.args.wait_set c.step-output.result.0 kept.history.stands
     kept.history.sound (sym told ∙ used) c.step-output.ensures.step in
     omega (arith, counts.0, kept.countable)
@@ -63,11 +62,11 @@ invariant_of-self g c =
     let output = c.step-output.result.0 in
     let step = c.step-output.ensures.step in
     let event = Call (WaitEnd c.args.wait_set) in
-    let told = use_told g.L.Listener.notices g.L.Listener.capacity g.L.Listener.becomes given old.core (roster_of g.N.Named.config)
+    let told = use_told g.L.Listener.notices g.L.Listener.capacity g.L.Listener.becomes given old.core kept.history.roster
     kept.history.peer c.args.wait_set c.is_in_use.result kept.history.stands c.is_in_use.ensures.used in
     let used : c.is_in_use.result ≡ true = search rules in
     let counts = ends_one g.L.Listener.notices g.L.Listener.capacity g.L.Listener.becomes given
-    (tests_of g.F.Filter.meaning old.core.filtered.filters) (roster_of g.N.Named.config) kept.history.peer old.core core
+    (tests_of g.F.Filter.meaning old.core.filtered.filters) kept.history.roster kept.history.peer old.core core
     c.args.wait_set output kept.history.stands kept.history.sound (sym told ∙ used) step in
     let logged = c.record.ensures.log in
     let entries = ap (λ (t : Logged Entry). t.log) logged
@@ -90,10 +89,10 @@ returns-clause-unused g c =
     let old = c.self.inside in
     let kept = c.self.invariant.0 in
     let given = listeners_in g.N.Named.slots in
-    let told = use_told g.L.Listener.notices g.L.Listener.capacity g.L.Listener.becomes given old.core (roster_of g.N.Named.config)
+    let told = use_told g.L.Listener.notices g.L.Listener.capacity g.L.Listener.becomes given old.core kept.history.roster
     kept.history.peer c.args.wait_set c.is_in_use.result kept.history.stands c.is_in_use.ensures.used in
     let used : c.is_in_use.result ≡ true = search rules in
     (ends_one g.L.Listener.notices g.L.Listener.capacity g.L.Listener.becomes given
-    (tests_of g.F.Filter.meaning old.core.filtered.filters) (roster_of g.N.Named.config) kept.history.peer old.core
+    (tests_of g.F.Filter.meaning old.core.filtered.filters) kept.history.roster kept.history.peer old.core
     c.step-output.new.core c.args.wait_set c.step-output.result.0 kept.history.stands kept.history.sound
     (sym told ∙ used) c.step-output.ensures.step).1

@@ -3,7 +3,6 @@ use Rattle.dds_conditions.specs.Filtered.{tests_of}
 use Rattle.dds_log.specs.Logs.{Logged}
 use Rattle.dds_protocol.specs.declared.event.Event.{Event}
 use Rattle.dds_core.specs.Listening.{Steps}
-use Rattle.dds_protocol.specs.Roster.{roster_of}
 use Rattle.dds_trace.specs.declared.trace.Entry.{Entry}
 use Rattle.dds_trace.specs.History.{entry_of}
 use Rattle.dds_trace.specs.Uses.{in_use_of}
@@ -29,8 +28,8 @@ invariant_of-self-2 g c =
     let was_used = ap (λ (k : Kept g.row.F.Denot g.row.L.Denot). in_use_of k.core) c.self.view_is in
     let was_long = ap (λ (k : Kept g.row.F.Denot g.row.L.Denot). length k.entries) c.self.view_is in
     let in_use = uses_told g.L.Listener.notices g.L.Listener.capacity g.L.Listener.becomes given old.core
-    (roster_of g.N.Named.config) peer c.in_use.result kept.history.stands c.in_use.ensures.used in
-    let more = one_more g.L.Listener.notices g.L.Listener.capacity g.L.Listener.becomes given tests (roster_of g.N.Named.config) peer
+    kept.history.roster peer c.in_use.result kept.history.stands c.in_use.ensures.used in
+    let more = one_more g.L.Listener.notices g.L.Listener.capacity g.L.Listener.becomes given tests kept.history.roster peer
     old.core core c.args.event output kept.history.stands kept.history.sound step in
     let logged = c.record-answer.ensures.log in
     let entries = ap (λ (t : Logged Entry). t.log) logged
@@ -59,5 +58,5 @@ returns-clause-ends g c s is waiting memory used =
     let P : Event → Type 0 =
     λ e. Steps g.L.Listener.notices g.L.Listener.capacity g.L.Listener.becomes tests old.core e output core in
     look_ends g.L.Listener.notices g.L.Listener.capacity g.L.Listener.becomes (listeners_in g.N.Named.slots) tests
-    (roster_of g.N.Named.config) kept.history.peer old.core core s output kept.history.stands kept.history.sound
+    kept.history.roster kept.history.peer old.core core s output kept.history.stands kept.history.sound
     (subst P is c.step-output.ensures.step) (λ w. waiting (says.1.1 w)) (λ m. memory (says.2.1 m)) used

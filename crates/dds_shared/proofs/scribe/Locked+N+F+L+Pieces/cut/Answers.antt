@@ -1,6 +1,5 @@
 use Rattle.std.proofs.Common.{◌≡◌, ◌-◌, List, [], ◌++◌, length, length-append, vec_capacity, vec_len, sym, ap, ◌∙◌, arith, append-nil, append_assoc}
 use Rattle.dds_log.specs.Logs.{Logged}
-use Rattle.dds_protocol.specs.Roster.{roster_of}
 use Rattle.dds_keeping.specs.declared.pieces.Pieces.{Pieces}
 use Rattle.dds_trace.specs.declared.trace.Entry.{Entry}
 use Rattle.dds_shared.specs.Seeds.{listeners_in}
@@ -16,7 +15,7 @@ invariant_of-self g c =
     let tally = c.write.ensures.kept ∙ c.compare.ensures.kept in
     let after = c.replace-full.ensures.after in
     let in_use = uses_told g.L.Listener.notices g.L.Listener.capacity g.L.Listener.becomes (listeners_in g.N.Named.slots)
-    old.core (roster_of g.N.Named.config) kept.history.peer c.in_use.result kept.history.stands c.in_use.ensures.used in
+    old.core kept.history.roster kept.history.peer c.in_use.result kept.history.stands c.in_use.ensures.used in
     let more = vec_capacity c.replace-full.new.dest.newest.entries - vec_len c.replace-full.new.dest.newest.entries in
     let room = ap (λ (p : Pieces). vec_capacity p.newest.entries - vec_len p.newest.entries) after in
     let empty = c.in_ok-reserve.ensures.same [] c.open-empty.ensures.nothing in

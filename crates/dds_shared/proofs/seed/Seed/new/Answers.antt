@@ -6,6 +6,7 @@ use Rattle.dds_trace.specs.History.{IsHistoryOf}
 use Rattle.dds_trace.proofs.Adding.{begins}
 use Rattle.dds_shared.specs.Seeds.{listeners_in}
 use Rattle.dds_shared.proofs.Given.{is_given}
+use Rattle.dds_shared.proofs.Opening.{number_opened, peers_good}
 use Rattle.dds_shared.proofs.seed.Seed.new.Goals as goal
 
 pub invariant_of-result : goal.invariant_of-result
@@ -19,6 +20,9 @@ invariant_of-result g c =
           (is_given g.F.Filter.meaning g.L.Listener.notices g.L.Listener.capacity g.L.Listener.becomes given
           c.args.config.now c.args.peer core
           (begins g.F.Filter.meaning g.L.Listener.notices g.L.Listener.capacity g.L.Listener.becomes given
-          c.args.config.now c.args.peer core c.in_ok-core.ensures.opening c.in_ok-core.ensures.none)),
+          c.args.config.now c.args.peer core
+          (peers_good c.args.config.now c.args.peer c.in_ok-core.ensures.taken)
+          (number_opened c.args.config.now c.args.peer c.in_ok-core.ensures.taken) c.in_ok-core.ensures.roster
+          c.in_ok-core.ensures.none)),
       search rules,
     )

@@ -1,6 +1,7 @@
 use Rattle.std.proofs.Common.{◌≡◌, [], ◌∷◌, ◌++◌, arith}
 use Rattle.std.proofs.lemmas.Grind.{common_steps}
 use Rattle.dds_world.specs.declared.round.RoundReply.{RoundReply}
+use Rattle.dds_world.proofs.Meetings.{nobody_in}
 use Rattle.dds_world.proofs.world.World.add_step.Goals as goal
 
 pub returns-clause-step : goal.returns-clause-step
@@ -11,7 +12,9 @@ returns-clause-step g c =
       reply,
       items,
       λ given. record {
-        rules = c.step-reply.ensures.rules given;
+        rules = λ roster network s.
+            c.step-reply.ensures.rules given roster network s
+            (nobody_in roster c.args.event c.step-reply.result c.requires.quiet);
         sent = c.sent-sent.ensures.sent;
         unsent = c.unsent-unsent.ensures.unsent;
       },

@@ -54,6 +54,7 @@ loop-event-preserved g c =
           subst (λ (rs : List Reply). RunsByRules tests old (c.loop-event.yielded ++ c.in-Some.event ∷ []) rs new)
           (sym items)
           (runs_more old mid new c.loop-event.yielded c.loop-event.replies.items c.in-Some.event c.step-reply.result
+          (grind (arith, common_steps))
           (i.0 given)
           (same_tests g.F.Filter.meaning first c.loop-event.self
           (λ ts. KeepsRules ts mid c.in-Some.event c.step-reply.result new) i.1 (c.step-reply.ensures.rules given))),
