@@ -1,6 +1,7 @@
 //! Peers and the network between them.
 
 mod listeners;
+mod meeting;
 mod scripts;
 
 use crate::tests::conditions::OfLength;
@@ -11,7 +12,8 @@ use dds_base::Moment;
 use dds_conditions::Filter;
 use dds_notices::Listener;
 use dds_script::{Side, TranscriptLine, call_of, words_of as all_words_of};
-use dds_world::{Endpoint, Reply, Round, World as WorldOf, WorldEvent};
+use dds_world::{Call, Endpoint, Reply, Round, World as WorldOf, WorldEvent};
+use meeting::meeting_of;
 use scripts::SCRIPTS;
 use std::alloc::Global;
 use std::mem::replace;
@@ -42,14 +44,18 @@ fn tick(peer: &str, now: &str) -> WorldEvent {
     }
 }
 
-fn call(alloc: Global, peer: &str, words: &[&str]) -> Option<WorldEvent> {
-    match call_of(alloc, words) {
-        Ok(Some(call)) => Some(WorldEvent::Call {
-            peer: peer.parse().unwrap_or(0),
-            call,
-        }),
-        _ => None,
+fn call_in(alloc: Global, words: &[&str]) -> Option<Call> {
+    match words {
+        ["meet", words @ ..] => meeting_of(words),
+        words => call_of(alloc, words).ok()?,
     }
+}
+
+fn call(alloc: Global, peer: &str, words: &[&str]) -> Option<WorldEvent> {
+    Some(WorldEvent::Call {
+        peer: peer.parse().unwrap_or(0),
+        call: call_in(alloc, words)?,
+    })
 }
 
 /// The event of a line, by its first word and those after it.

@@ -184,4 +184,70 @@ run => [ok][ok]
 sent => (2, 0)
 round 1 1 2 1 => replies 4, was_behind true, unsent_before 0, last 2, from 1 to 2, has_caught_up false
 place 2 1 1 1 => Some(Sn { number: 2 })
+
+# A name has one GUID, a GUID one name, and a participant one prefix; the prefix is none of zeros, the entity a reader's, and
+# the participant has a number. One that has left may be met again.
+open peer 1 | writer 1 2 all => opened
+1 meet w1 2 1 7 5 7
+1 meet w1 2 1 7 6 7
+1 meet w1 3 1 7 5 7
+1 meet w1 2 2 8 6 7
+1 meet w1 2 2 7 6 7
+1 meet w1 2 1 7 5 7
+1 part w1 2.r1
+1 meet w1 2 1 7 5 7
+1 meet w1 4 1 0 5 7
+1 meet w1 4 1 9 5 2
+1 meet w1 0 1 9 5 7
+1 meet w2 4 1 9 5 7
+run => [ok][code 3][code 3][code 3][ok][code 4][ok][ok][code 3][code 3][code 3][code 3]
+
+# RELIABILITY can't change, also while nobody is matched.
+1 part w1 2.r1
+1 meet w1 2 1 7 5 7 besteffort
+1 meet w1 2 1 7 5 7
+run => [ok][code 3][ok]
+
+# There is no limit of participants: a change goes to each of eighteen.
+open peer 1 | writer 1 2 all => opened
+1 meet w1 2 1 2 1 7
+1 meet w1 3 1 3 1 7
+1 meet w1 4 1 4 1 7
+1 meet w1 5 1 5 1 7
+1 meet w1 6 1 6 1 7
+1 meet w1 7 1 7 1 7
+1 meet w1 8 1 8 1 7
+1 meet w1 9 1 9 1 7
+1 meet w1 10 1 10 1 7
+1 meet w1 11 1 11 1 7
+1 meet w1 12 1 12 1 7
+1 meet w1 13 1 13 1 7
+1 meet w1 14 1 14 1 7
+1 meet w1 15 1 15 1 7
+1 meet w1 16 1 16 1 7
+1 meet w1 17 1 17 1 7
+1 meet w1 18 1 18 1 7
+1 meet w1 19 1 19 1 7
+1 meet w1 18 2 18 2 7
+1 write w1 1 01
+run => [ok][ok][ok][ok][ok][ok][ok][ok][ok][ok][ok][ok][ok][ok][ok][ok][ok][ok][ok][ok]
+sent => (18, 0)
+
+# Both sides are told. A change of before is not owed, and counts as nothing lost; one of afterwards waits until it is known
+# where the reader begins. A reader numbers its writers as it meets them.
+open peer 1 | writer 1 2 all topic=1 | peer 2 | reader 1 7 all => opened
+1 write w1 1 01
+1 meet w1 2 1 2 1 7
+2 meet r1 1 1 1 1 2
+1 write w1 1 02
+deliver 2 1
+1 tick 0
+deliver 2 2
+deliver 1 3
+deliver 2 4
+2 take r1
+2 lost r1
+2 meet r1 5 1 5 1 2
+2 meet r1 1 1 1 1 2
+run => [ok][ok][handle 1][ok][report][ok][report [begun 1.w1 r1 1 2]][report][report [place 1.w1 r1 3]][samples 1 [1 02 N N A 0 0 0 0 0 0 1 1]][lost 0 0][handle 2][code 4]
 ";
