@@ -2,6 +2,7 @@
 //!
 //! What a line says is read elsewhere. Forms serve to tell what is wrong with one that says nothing.
 
+use crate::meeting::{is_of_met_reader, is_of_met_writer};
 use crate::number::{
     decimal, decimal_i32, decimal_u32, entity_id, guid_prefix, is_value, key, units,
 };
@@ -41,13 +42,27 @@ pub enum Operand {
     Octets,
     GuidPrefix,
     EntityId,
+    OfMetReader,
+    OfMetWriter,
 }
 
-/// What follows a word: operands, and where samples are read `[MAX [S V I]]`.
+/// What may follow the operands of a form.
+#[derive(Clone, Copy)]
+enum Rest {
+    Nothing,
+    /// How many samples at most, and which.
+    Limits,
+    /// What is said of a reader that a writer meets, in any order.
+    OfMetReader,
+    /// What is said of a writer that a reader meets, in any order.
+    OfMetWriter,
+}
+
+/// What follows a word: operands, and what may follow them.
 #[derive(Clone, Copy)]
 pub struct Form {
     operands: &'static [Operand],
-    has_limits: bool,
+    rest: Rest,
 }
 
 /// How many samples at most, and which.
@@ -87,6 +102,8 @@ impl Operand {
             Operand::GuardValue => word == "0" || word == "1",
             Operand::GuidPrefix => guid_prefix(word).is_some(),
             Operand::EntityId => entity_id(word).is_some(),
+            Operand::OfMetReader => is_of_met_reader(word),
+            Operand::OfMetWriter => is_of_met_writer(word),
             _ => self.fits_number(word),
         }
     }
@@ -133,6 +150,7 @@ impl Operand {
             Operand::Octets => "HEX",
             Operand::GuidPrefix => "PREFIX",
             Operand::EntityId => "ENTITY",
+            Operand::OfMetReader | Operand::OfMetWriter => "OPTION",
         }
     }
 
@@ -156,6 +174,8 @@ impl Operand {
             Operand::GuardValue => "0 or 1",
             Operand::GuidPrefix => "24 hexadecimal digits",
             Operand::EntityId => "8 hexadecimal digits",
+            Operand::OfMetReader => "besteffort or greeted",
+            Operand::OfMetWriter => "strength= and a number in 32 bits, or lease= and a time",
             _ => self.meaning_of_number(),
         }
     }
@@ -190,12 +210,43 @@ impl fmt::Display for Explained {
     }
 }
 
+impl Rest {
+    /// Whether so many words more may follow.
+    fn takes(self, more: usize) -> bool {
+        match self {
+            Rest::Nothing => more == 0,
+            Rest::Limits => more == 0 || more == 1 || more == LIMITS.len(),
+            Rest::OfMetReader | Rest::OfMetWriter => true,
+        }
+    }
+
+    /// What the word at an index has to be, of those that follow.
+    fn operand(self, index: usize) -> Option<Operand> {
+        match self {
+            Rest::Nothing => None,
+            Rest::Limits => LIMITS.get(index).copied(),
+            Rest::OfMetReader => Some(Operand::OfMetReader),
+            Rest::OfMetWriter => Some(Operand::OfMetWriter),
+        }
+    }
+
+    /// As forms name it, behind the operands.
+    fn text(self) -> &'static str {
+        match self {
+            Rest::Nothing => "",
+            Rest::Limits => " [MAX [S V I]]",
+            Rest::OfMetReader => " [besteffort] [greeted]",
+            Rest::OfMetWriter => " [strength=N] [lease=UNITS]",
+        }
+    }
+}
+
 impl Form {
     /// These operands, and no more.
     pub const fn of(operands: &'static [Operand]) -> Form {
         Form {
             operands,
-            has_limits: false,
+            rest: Rest::Nothing,
         }
     }
 
@@ -203,33 +254,27 @@ impl Form {
     pub const fn limited(operands: &'static [Operand]) -> Form {
         Form {
             operands,
-            has_limits: true,
+            rest: Rest::Limits,
         }
     }
 
     /// Whether so many words may follow.
     pub fn takes(self, count: usize) -> bool {
         let least = self.operands.len();
-        let more = count.saturating_sub(least);
-        least <= count && (more == 0 || self.has_limits && (more == 1 || more == LIMITS.len()))
+        least <= count && self.rest.takes(count.saturating_sub(least))
     }
 
     /// What the word at an index has to be.
     pub fn operand(self, index: usize) -> Option<Operand> {
         match self.operands.get(index) {
             Some(operand) => Some(*operand),
-            None if self.has_limits => {
-                LIMITS
-                    .get(index.saturating_sub(self.operands.len()))
-                    .copied()
-            }
-            None => None,
+            None => self.rest.operand(index.saturating_sub(self.operands.len())),
         }
     }
 
     /// Whether nothing may follow.
     pub fn is_empty(self) -> bool {
-        self.operands.is_empty() && !self.has_limits
+        self.operands.is_empty() && self.rest.text().is_empty()
     }
 }
 
@@ -238,12 +283,31 @@ impl fmt::Display for Form {
         for operand in self.operands {
             write!(f, " {operand}")?;
         }
-        if self.has_limits {
-            f.write_str(" [MAX [S V I]]")?;
-        }
-        Ok(())
+        f.write_str(self.rest.text())
     }
 }
+
+/// What follows `meet` and a writer.
+const MEETING_OF_READER: Form = Form {
+    operands: &[
+        Operand::Writer,
+        Operand::ReaderOfPeer,
+        Operand::GuidPrefix,
+        Operand::EntityId,
+    ],
+    rest: Rest::OfMetReader,
+};
+
+/// What follows `meet` and a reader.
+const MEETING_OF_WRITER: Form = Form {
+    operands: &[
+        Operand::Reader,
+        Operand::WriterOfPeer,
+        Operand::GuidPrefix,
+        Operand::EntityId,
+    ],
+    rest: Rest::OfMetWriter,
+};
 
 /// What follows the name of a call that tells who is matched, by what stands behind the name; none of another call, and where
 /// that is neither a writer nor a reader.
@@ -255,6 +319,8 @@ pub fn matching_form(name: &str, words: &[&str]) -> Option<Form> {
         ("match" | "part", [end, ..]) if reader_number(end).is_some() => {
             Some(Form::of(&[Operand::Reader, Operand::WriterOfPeer]))
         }
+        ("meet", [end, ..]) if writer_number(end).is_some() => Some(MEETING_OF_READER),
+        ("meet", [end, ..]) if reader_number(end).is_some() => Some(MEETING_OF_WRITER),
         _ => None,
     }
 }
@@ -269,6 +335,12 @@ fn end_call_form(name: &str) -> Option<Form> {
         "assert" | "livelost" => Some(Form::of(&[Operand::Writer])),
         "strength" => Some(Form::of(&[Operand::Writer, Operand::Strength])),
         "match" | "part" => Some(Form::of(&[Operand::End, Operand::EndOfPeer])),
+        "meet" => Some(Form::of(&[
+            Operand::End,
+            Operand::EndOfPeer,
+            Operand::GuidPrefix,
+            Operand::EntityId,
+        ])),
         "matched" => Some(Form::of(&[Operand::End])),
         "lost" | "changed" | "read_next_sample" | "take_next_sample" => {
             Some(Form::of(&[Operand::Reader]))

@@ -13,6 +13,7 @@ mod forms;
 mod lines;
 mod listening;
 mod matching;
+mod meeting;
 mod notice_text;
 mod number;
 mod operand;

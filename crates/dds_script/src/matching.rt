@@ -1,5 +1,6 @@
 //! The calls of a script that tell who is matched, and those that ask.
 
+use crate::meeting::meeting_of;
 use crate::operand::{reader_end, reader_number, writer_end, writer_number};
 use dds_machine::Call;
 
@@ -81,6 +82,7 @@ fn look_of(words: &[&str]) -> Option<Call> {
 pub fn matching_call(operation: &str, words: &[&str]) -> Option<Call> {
     match operation {
         "match" => match_of(words),
+        "meet" => meeting_of(words),
         "part" => parting_of(words),
         "matched" => look_of(words),
         _ => None,
