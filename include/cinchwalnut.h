@@ -343,6 +343,15 @@ uint8_t cw_get_liveliness_lost_status(cw_peer *peer, uint8_t writer);
 uint8_t cw_match_reader(cw_peer *peer, uint8_t writer, uint32_t reader_peer, uint8_t reader);
 uint8_t cw_greet_reader(cw_peer *peer, uint8_t writer, uint32_t reader_peer, uint8_t reader);
 uint8_t cw_unmatch_reader(cw_peer *peer, uint8_t writer, uint32_t reader_peer, uint8_t reader);
+/* The same of a reader that no configuration has to list: of another topic, or of a peer that came later. The caller gives the
+ * number of its peer, from 1 in 32 bits, one for each GUID prefix, and its number there, from 1 in 8 bits: by them it is known
+ * from then on, to cw_unmatch_reader too, and its packets are for that peer. Its entity ends with 0x07; it is reliable unless
+ * is_best_effort, and that stays. is_greeted: as by cw_greet_reader. Whether it fits the writer the caller has to know.
+ * CW_BAD_PARAMETER where there is no such writer, a number is 0, the prefix is twelve zeros, the entity is no reader's, or
+ * numbers, GUID and RELIABILITY are not those that are known; CW_PRECONDITION_NOT_MET where the two are matched;
+ * CW_OUT_OF_RESOURCES where the writer knows 16 other readers of that peer, or 2^31 - 1 others. */
+uint8_t cw_meet_reader(cw_peer *peer, uint8_t writer, uint32_t reader_peer, uint8_t reader, const uint8_t prefix[12],
+                       const uint8_t entity[4], bool is_best_effort, bool is_greeted);
 uint8_t cw_get_publication_matched_status(cw_peer *peer, uint8_t writer);
 
 /* Calls of a reader, by its number (DDS 1.4, 2.2.2.5). max is how many samples at most, -1 for all; the masks are sums of
@@ -373,6 +382,13 @@ uint8_t cw_get_liveliness_changed_status(cw_peer *peer, uint8_t reader);
  * is gone go to the next owner, or are without writers. */
 uint8_t cw_match_writer(cw_peer *peer, uint8_t reader, uint32_t writer_peer, uint8_t writer);
 uint8_t cw_unmatch_writer(cw_peer *peer, uint8_t reader, uint32_t writer_peer, uint8_t writer);
+/* The same of a writer that no configuration has to list, with numbers as those of cw_meet_reader; its entity ends with 0x02,
+ * strength is its OWNERSHIP_STRENGTH, and its lease, from 1, in units of 2^-32 second, counts where has_lease; else, and from
+ * 2^31 - 1 seconds on, it has none. One that the reader did not know has the next publication handle, which cw_handle fetches.
+ * Codes as those of cw_meet_reader, and CW_BAD_PARAMETER for a lease of 0; CW_OUT_OF_RESOURCES where the reader knows 2^31 - 1
+ * other writers. */
+uint8_t cw_meet_writer(cw_peer *peer, uint8_t reader, uint32_t writer_peer, uint8_t writer, const uint8_t prefix[12],
+                       const uint8_t entity[4], int32_t strength, bool has_lease, uint64_t lease);
 uint8_t cw_get_subscription_matched_status(cw_peer *peer, uint8_t reader);
 
 /* Any event, in a line of docs/PIPE.md without its line feed: "call ..", "tick M", "deliver HEX" or "resume R". */
@@ -401,7 +417,7 @@ enum {
 uint8_t cw_packet(cw_peer *peer, size_t at, uint32_t *to, uint8_t *buffer, size_t buffer_len, size_t *needed);
 uint8_t cw_sample(cw_peer *peer, size_t at, cw_sample_info *info, uint8_t *buffer, size_t buffer_len, size_t *needed);
 uint8_t cw_key(cw_peer *peer, uint8_t key[16]);                 /* of cw_get_key_value */
-uint8_t cw_handle(cw_peer *peer, uint64_t *handle);             /* of cw_lookup_instance; 0 where it is not known; of cw_match_writer that of the publication */
+uint8_t cw_handle(cw_peer *peer, uint64_t *handle);             /* of cw_lookup_instance; 0 where it is not known; of cw_match_writer and cw_meet_writer that of the publication */
 uint8_t cw_number(cw_peer *peer, uint32_t *number);             /* of what a line made: a condition, a WaitSet */
 uint8_t cw_total(cw_peer *peer, cw_total_status *total);        /* of a look at SAMPLE_LOST or LIVELINESS_LOST */
 uint8_t cw_changed(cw_peer *peer, cw_changed_status *changed);  /* of a look at LIVELINESS_CHANGED */
@@ -520,6 +536,9 @@ CW_MARKED(greet_reader, (cw_peer *peer, uint8_t writer, uint32_t reader_peer, ui
           (peer, writer, reader_peer, reader))
 CW_MARKED(unmatch_reader, (cw_peer *peer, uint8_t writer, uint32_t reader_peer, uint8_t reader),
           (peer, writer, reader_peer, reader))
+CW_MARKED(meet_reader, (cw_peer *peer, uint8_t writer, uint32_t reader_peer, uint8_t reader, const uint8_t prefix[12],
+           const uint8_t entity[4], bool is_best_effort, bool is_greeted),
+          (peer, writer, reader_peer, reader, prefix, entity, is_best_effort, is_greeted))
 CW_MARKED(get_publication_matched_status, (cw_peer *peer, uint8_t writer), (peer, writer))
 CW_MARKED(read, (cw_peer *peer, uint8_t reader, int32_t max, uint32_t samples, uint32_t views, uint32_t instances),
           (peer, reader, max, samples, views, instances))
@@ -557,6 +576,9 @@ CW_MARKED(match_writer, (cw_peer *peer, uint8_t reader, uint32_t writer_peer, ui
           (peer, reader, writer_peer, writer))
 CW_MARKED(unmatch_writer, (cw_peer *peer, uint8_t reader, uint32_t writer_peer, uint8_t writer),
           (peer, reader, writer_peer, writer))
+CW_MARKED(meet_writer, (cw_peer *peer, uint8_t reader, uint32_t writer_peer, uint8_t writer, const uint8_t prefix[12],
+           const uint8_t entity[4], int32_t strength, bool has_lease, uint64_t lease),
+          (peer, reader, writer_peer, writer, prefix, entity, strength, has_lease, lease))
 CW_MARKED(get_subscription_matched_status, (cw_peer *peer, uint8_t reader), (peer, reader))
 CW_MARKED_IF(cw_is_array(line, line_len), line, CW_NONNULL(1),
              (cw_peer *peer, const uint8_t *line, size_t line_len),
@@ -623,6 +645,7 @@ static inline CW_NONNULL() uint64_t cw_marked_unsent(cw_peer *peer) {
 #define cw_match_reader cw_marked_match_reader
 #define cw_greet_reader cw_marked_greet_reader
 #define cw_unmatch_reader cw_marked_unmatch_reader
+#define cw_meet_reader cw_marked_meet_reader
 #define cw_get_publication_matched_status cw_marked_get_publication_matched_status
 #define cw_read cw_marked_read
 #define cw_take cw_marked_take
@@ -642,6 +665,7 @@ static inline CW_NONNULL() uint64_t cw_marked_unsent(cw_peer *peer) {
 #define cw_get_liveliness_changed_status cw_marked_get_liveliness_changed_status
 #define cw_match_writer cw_marked_match_writer
 #define cw_unmatch_writer cw_marked_unmatch_writer
+#define cw_meet_writer cw_marked_meet_writer
 #define cw_get_subscription_matched_status cw_marked_get_subscription_matched_status
 #define cw_line cw_marked_line
 #define cw_add_filter cw_marked_add_filter

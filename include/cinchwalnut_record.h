@@ -328,6 +328,38 @@ static inline uint8_t cw_recorded_unmatch_writer(cw_recording *run, uint8_t read
     return cw_recorded_told(run, cw_unmatch_writer(&run->peer, reader, writer_peer, writer), "part", 'r', reader, writer_peer, writer);
 }
 
+/* A meeting with an end of the other kind, without what is said of it. */
+static inline bool cw_recorded_meeting(cw_recording *run, uint8_t code, char kind, uint8_t number, uint32_t other_peer, uint8_t other,
+                                       const uint8_t prefix[12], const uint8_t entity[4]) {
+    if (!cw_recorded_call(run, code, "meet", kind, number))
+        return false;
+    fprintf(run->to, " %" PRIu32 ".%c%u ", other_peer, kind == 'w' ? 'r' : 'w', (unsigned)other);
+    cw_recorded_octets(run, prefix, 12, " ");
+    cw_recorded_octets(run, entity, 4, "");
+    return true;
+}
+
+static inline uint8_t cw_recorded_meet_reader(cw_recording *run, uint8_t writer, uint32_t reader_peer, uint8_t reader,
+                                              const uint8_t prefix[12], const uint8_t entity[4], bool is_best_effort, bool is_greeted) {
+    uint8_t code = cw_meet_reader(&run->peer, writer, reader_peer, reader, prefix, entity, is_best_effort, is_greeted);
+    if (!cw_recorded_meeting(run, code, 'w', writer, reader_peer, reader, prefix, entity))
+        return code;
+    fprintf(run->to, "%s%s", is_best_effort ? " besteffort" : "", is_greeted ? " greeted" : "");
+    return cw_recorded_end(run, code);
+}
+
+static inline uint8_t cw_recorded_meet_writer(cw_recording *run, uint8_t reader, uint32_t writer_peer, uint8_t writer,
+                                              const uint8_t prefix[12], const uint8_t entity[4], int32_t strength, bool has_lease,
+                                              uint64_t lease) {
+    uint8_t code = cw_meet_writer(&run->peer, reader, writer_peer, writer, prefix, entity, strength, has_lease, lease);
+    if (!cw_recorded_meeting(run, code, 'r', reader, writer_peer, writer, prefix, entity))
+        return code;
+    fprintf(run->to, " strength=%" PRId32, strength);
+    if (has_lease)
+        fprintf(run->to, " lease=%" PRIu64, lease);
+    return cw_recorded_end(run, code);
+}
+
 /* A handle in a line has 32 bits; no instance is known by a greater one. */
 static inline void cw_recorded_handle(cw_recording *run, uint64_t handle) {
     fprintf(run->to, " %" PRIu64, handle > UINT32_MAX ? (uint64_t)UINT32_MAX : handle);

@@ -40,5 +40,11 @@ def octets_of(count: int, value: Octets, name: str) -> bytes:
     return found
 
 
+def truth(value: bool, name: str) -> bool:
+    if value not in (False, True):
+        raise ValueError(f"{name} is {value!r}, and not False or True")
+    return bool(value)
+
+
 def key_of(value: Octets) -> bytes:
     return octets_of(16, value, "a key")

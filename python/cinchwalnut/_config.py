@@ -4,17 +4,11 @@ from __future__ import annotations
 import dataclasses
 from typing import Any, Callable
 
-from ._checks import i32, octets_of, u8, u24, u32, u64
+from ._checks import i32, octets_of, truth, u8, u24, u32, u64
 
 
 def _entity(value: Any, name: str) -> bytes:
     return octets_of(4, value, name)
-
-
-def _truth(value: Any, name: str) -> bool:
-    if value not in (False, True):
-        raise ValueError(f"{name} is {value!r}, and not False or True")
-    return bool(value)
 
 
 _CHECKS: dict[str, Callable[[Any, str], Any]] = {
@@ -30,7 +24,7 @@ class _Checked:
     """A field takes what the struct of C can hold, and else raises ValueError."""
 
     def __setattr__(self, name: str, value: Any) -> None:
-        object.__setattr__(self, name, _CHECKS.get(name, _truth)(value, name))
+        object.__setattr__(self, name, _CHECKS.get(name, truth)(value, name))
 
 
 @dataclasses.dataclass

@@ -76,6 +76,8 @@ _ARGUMENTS: Dict[str, List[Any]] = {
     **{it: [_U8] for it in ("get_liveliness_changed_status", "read_next_sample", "take_next_sample")},
     **{it: [_U8] for it in ("get_publication_matched_status", "get_subscription_matched_status")},
     **{it: [_U8, _U32, _U8] for it in ("match_reader", "greet_reader", "unmatch_reader", "match_writer", "unmatch_writer")},
+    **{"meet_reader": [_U8, _U32, _U8, _OCTETS, _OCTETS, c.c_bool, c.c_bool]},
+    **{"meet_writer": [_U8, _U32, _U8, _OCTETS, _OCTETS, _I32, c.c_bool, _U64]},
     **{f"{it}": [_U8, _I32, *_MASKS] for it in ("read", "take")},
     **{f"{it}_instance": [_U8, _I32, _U64, *_MASKS] for it in ("read", "take", "read_next", "take_next")},
     **{f"{it}_w_condition": [_U8, _I32, _U32] for it in ("read", "take")},

@@ -8,7 +8,7 @@ from typing import Any, Callable, List, NamedTuple, Optional, Sequence, Tuple, T
 
 from . import _library
 from ._causes import cause, own_of, own_of_text
-from ._checks import Octets, i32, key_of, octets, u8, u32, u64
+from ._checks import Octets, i32, key_of, octets, octets_of, truth, u8, u32, u64
 from ._codes import ANY, Code, EntityKind, InstanceState, PreconditionNotMet, SampleState, Status, ViewState, refused
 from ._config import ReaderConfig, WriterConfig
 from ._faults import arrays, fault_in, line_fault, text_fault
@@ -260,6 +260,21 @@ class Peer:
         """The writer is told that a reader is gone: it waits for it no longer, and sends it nothing."""
         return self._told("part", _LIBRARY.cw_unmatch_reader, number, reader)
 
+    def meet_reader(
+        self, number: int, reader: End, prefix: Octets, entity: Octets, is_best_effort: bool = False, greeted: bool = False
+    ) -> List[Packet]:
+        """The same of a reader that no configuration has to list: of another topic, or of a peer that came later. The caller
+        gives the number of its peer, one for each GUID prefix, and its number there; the prefix has 12 octets, the entity 4,
+        of which the last is 7."""
+        u8(number, "number")
+        peer, there = _named(reader, "reader")
+        guid = octets_of(12, prefix, "prefix"), octets_of(4, entity, "entity")
+        said = truth(is_best_effort, "is_best_effort"), truth(greeted, "greeted")
+        return self._sent(
+            lambda: f"call meet w{number} {peer}.r{there} {guid[0].hex()} {guid[1].hex()}{' besteffort' * said[0]}{' greeted' * said[1]}",
+            *(_LIBRARY.cw_meet_reader, number, peer, there, *guid, *said),
+        )
+
     def _told(self, word: str, call: Any, number: int, reader: End, option: str = "") -> List[Packet]:
         u8(number, "number")
         peer, there = _named(reader, "reader")
@@ -374,6 +389,20 @@ class Peer:
         peer, there = _named(writer, "writer")
         return self._sent(lambda: f"call part r{number} {peer}.w{there}", _LIBRARY.cw_unmatch_writer, number, peer, there)
 
+    def meet_writer(self, number: int, writer: End, prefix: Octets, entity: Octets, strength: int = 0, lease: Optional[int] = None) -> int:
+        """The reader is told that it is matched from now on with a writer that no configuration has to list, as by meet_reader;
+        its entity ends with 2, and a lease is in units of 2^-32 second. Gives the publication handle."""
+        u8(number, "number"), i32(strength, "strength"), u64(lease or 0, "lease")
+        peer, there = _named(writer, "writer")
+        guid = octets_of(12, prefix, "prefix"), octets_of(4, entity, "entity")
+        said = f" strength={int(strength)}" + ("" if lease is None else f" lease={int(lease)}")
+        with self._lock:
+            self._event(
+                lambda: f"call meet r{number} {peer}.w{there} {guid[0].hex()} {guid[1].hex()}{said}",
+                *(_LIBRARY.cw_meet_writer, number, peer, there, *guid, strength, lease is not None, lease or 0),
+            )
+            return self.handle()
+
     def get_subscription_matched_status(self, number: int) -> MatchedStatus:
         u8(number, "number")
         with self._lock:
@@ -473,7 +502,7 @@ class Peer:
         return bytes(self._there(self._fetched(_KEY, _LIBRARY.cw_key), "key")[0])
 
     def handle(self) -> int:
-        """Of lookup_instance, or of match_writer."""
+        """Of lookup_instance, or of match_writer or meet_writer."""
         return int(self._there(self._fetched(_HANDLE, _LIBRARY.cw_handle), "handle")[0])
 
     def number(self) -> int:

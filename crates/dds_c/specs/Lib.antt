@@ -1,6 +1,7 @@
 pub mod Adapting
 pub mod Answering
 pub mod Asking
+pub mod Far
 pub mod Faults
 pub mod Fetching
 pub mod Held

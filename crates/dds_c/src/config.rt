@@ -103,7 +103,8 @@ fn history(keeps_last: bool, depth: u32) -> HistoryQos
     }
 }
 
-fn lease(has_lease: bool, lease: u64) -> Option<u64>
+/// A lease, where there is one.
+pub fn lease(has_lease: bool, lease: u64) -> Option<u64>
     ensures { result ≡ lease_of has_lease lease }
 {
     if has_lease { Some(lease) } else { None }
@@ -136,7 +137,8 @@ fn ownership(is_exclusive: bool) -> OwnershipQos
     }
 }
 
-fn reliability(is_best_effort: bool) -> ReliabilityQos
+/// A RELIABILITY.
+pub fn reliability(is_best_effort: bool) -> ReliabilityQos
     ensures { result ≡ reliability_of is_best_effort }
 {
     if is_best_effort {

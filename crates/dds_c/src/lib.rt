@@ -10,6 +10,7 @@ pub mod adapting;
 pub mod answers;
 mod config;
 pub mod events;
+mod far;
 pub mod fault;
 mod held;
 pub mod lines;

@@ -6,12 +6,16 @@
 ghost use Rattle.std.specs.Prelude.{◌≡◌};
 ghost use Rattle.dds_base.specs.declared.selection.Scope.TheVariants as Scope;
 ghost use Rattle.dds_base.specs.declared.selection.Selection.TheVariants as Selection;
-ghost use Rattle.dds_machine.specs.declared.call.Call.TheVariants.{GetKeyValue, GetLivelinessChanged, GetSampleLost, GetSubscriptionMatched, LookupInstance, MatchWriter, Read, ReadByCondition, Take, TakeByCondition, UnmatchWriter};
+ghost use Rattle.dds_machine.specs.declared.call.Call.TheVariants.{GetKeyValue, GetLivelinessChanged, GetSampleLost, GetSubscriptionMatched, LookupInstance, MatchWriter, MeetWriter, Read, ReadByCondition, Take, TakeByCondition, UnmatchWriter};
 ghost use Rattle.dds_protocol.specs.declared.event.Event.TheVariants.{Call as Asked};
 ghost use Rattle.dds_c.specs.Answering.{Happens};
 ghost use Rattle.dds_c.specs.Asking.{end_of, masks_of};
+ghost use Rattle.dds_c.specs.Far.{far_writer};
+ghost use Rattle.dds_c.specs.Opening.{lease_of};
 
+use crate::config;
 use crate::events::step;
+use crate::far::far_writer;
 use crate::peer::Peer;
 use bitflags::Flags;
 use dds_base::{
@@ -438,6 +442,38 @@ pub extern "C" fn cw_match_writer(
     };
     let call = Call::MatchWriter { reader, writer };
     step(alloc, peer, Event::Call(call))
+}
+
+/// A reader is told of a writer that it may not know, by a number of its peer and a number there that the caller chose,
+/// its GUID, its strength and, where it has one, its lease in units of 2^-32 second: the two are matched from now on (RTPS
+/// 2.5, 8.4.10.3, matched_writer_add); `cw_handle` fetches the publication handle. It is refused as `Call::MeetWriter`.
+#[unsafe(no_mangle)]
+pub extern "C" fn cw_meet_writer(
+    alloc: Global,
+    peer: &mut Peer,
+    reader: u8,
+    writer_peer: u32,
+    writer: u8,
+    prefix: &[u8; 12],
+    entity: &[u8; 4],
+    strength: i32,
+    has_lease: bool,
+    lease: u64,
+) -> u8
+    // It is one step of the peer.
+    ensures step { Happens peer.old.held.session
+        (Asked (MeetWriter reader
+        (far_writer (end_of writer_peer writer) prefix.now entity.now strength
+        (lease_of has_lease lease))))
+        result peer.new.held.session }
+{
+    let endpoint = Endpoint {
+        peer: writer_peer,
+        number: writer,
+    };
+    let lease = config::lease(has_lease, lease);
+    let far = far_writer(endpoint, prefix, entity, strength, lease);
+    step(alloc, peer, Event::Call(Call::MeetWriter { reader, far }))
 }
 
 /// A reader is told that a writer has left (RTPS 2.5, 8.4.10.3, matched_writer_remove). It is refused as

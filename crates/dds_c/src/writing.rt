@@ -3,12 +3,14 @@
 //! DDS 1.4, 2.2.2.4 (DataWriter).
 
 ghost use Rattle.std.specs.Prelude.{true, false};
-ghost use Rattle.dds_machine.specs.declared.call.Call.TheVariants.{AssertLiveliness, Dispose, GetLivelinessLost, GetPublicationMatched, MatchReader, Register, SetStrength, UnmatchReader, Unregister, Write};
+ghost use Rattle.dds_machine.specs.declared.call.Call.TheVariants.{AssertLiveliness, Dispose, GetLivelinessLost, GetPublicationMatched, MatchReader, MeetReader, Register, SetStrength, UnmatchReader, Unregister, Write};
 ghost use Rattle.dds_protocol.specs.declared.event.Event.TheVariants.{Call as Asked};
 ghost use Rattle.dds_c.specs.Answering.{Happens, HappensCopied};
 ghost use Rattle.dds_c.specs.Asking.{end_of};
+ghost use Rattle.dds_c.specs.Far.{far_reader};
 
 use crate::events::step;
+use crate::far::far_reader;
 use crate::peer::Peer;
 use dds_base::{Code, Endpoint, Key, Octets};
 use dds_machine::Call;
@@ -157,6 +159,39 @@ pub extern "C" fn cw_greet_reader(
         writer,
         reader,
         greeted: true,
+    };
+    step(alloc, peer, Event::Call(call))
+}
+
+/// A writer is told of a reader that it may not know, by a number of its peer and a number there that the caller chose,
+/// its GUID and whether it is best-effort: the two are matched from now on (RTPS 2.5, 8.4.7.4, matched_reader_add), greeted
+/// or not. It is refused as `Call::MeetReader`.
+#[unsafe(no_mangle)]
+pub extern "C" fn cw_meet_reader(
+    alloc: Global,
+    peer: &mut Peer,
+    writer: u8,
+    reader_peer: u32,
+    reader: u8,
+    prefix: &[u8; 12],
+    entity: &[u8; 4],
+    is_best_effort: bool,
+    is_greeted: bool,
+) -> u8
+    // It is one step of the peer.
+    ensures step { Happens peer.old.held.session
+        (Asked (MeetReader writer
+        (far_reader (end_of reader_peer reader) prefix.now entity.now is_best_effort) is_greeted))
+        result peer.new.held.session }
+{
+    let endpoint = Endpoint {
+        peer: reader_peer,
+        number: reader,
+    };
+    let call = Call::MeetReader {
+        writer,
+        far: far_reader(endpoint, prefix, entity, is_best_effort),
+        greeted: is_greeted,
     };
     step(alloc, peer, Event::Call(call))
 }
