@@ -75,6 +75,12 @@ class Instances:
         """The publication handle of the writer of a path."""
         return 1 + [it.path for it in self.writers].index(writer)
 
+    def know(self, writer: End, guid: bytes) -> None:
+        """A writer that is met has the next publication handle, unless it has one."""
+        if all(it.path != writer.path for it in self.writers):
+            self.writers.append(writer)
+            self.strengths[len(self.writers)], self.guids[len(self.writers)] = writer.strength, guid
+
     def rank(self, writer: int) -> tuple[int, bytes]:
         """The least rank is the owner's."""
         return -self.strengths[writer], self.guids[writer]

@@ -22,6 +22,7 @@ RUN = re.compile(r"(\d+)-(\d+)")
 MOST_SAMPLES, LONGEST = 12, 14  # samples that are shown of a reply; letters of a word
 WAITS = "held until what is missing before it has come, or there is room"
 STATES = {"A": "alive", "D": "disposed", "W": "no-writers"}
+TELLINGS = ("match", "meet", "part")  # the calls by which an end is told of another
 
 
 class Piece(NamedTuple):
@@ -74,6 +75,7 @@ class Follower:
         self.readers = [it for it in self.config.ends if it.kind == "r"]
         self.instances = {it.path: Instances(self.config, it) for it in self.readers}
         self.proxies = {(it.path, other.path): Proxy(it.is_best_effort) for it in self.readers for other in self.config.matched(it)}
+        self.met: dict[bytes, End] = {}  # writers by their GUIDs that a reader has met and no configuration lists
         self.away: set[tuple[str, str]] = set()  # those of them whose reader was told of a parting
         self.waiting: set[tuple[str, str]] = set()  # those whose place has not begun since a match
         self.texts: dict[tuple[str, str], str] = {}  # what was last told of each pair
@@ -119,7 +121,7 @@ class Follower:
                 told.add("notice", it, "a notice that the listener kept")
         else:
             told.add("reply", reply or "no reply")
-        if word == "ok" or (event.kind, word) == ("match", "handle"):
+        if word == "ok" or word == "handle" and event.kind in TELLINGS:
             self.take_effect(event)
 
     def show_samples(self, event: Event, reply: str, told: Told) -> None:
@@ -144,12 +146,23 @@ class Follower:
                 self.instances[it.path].tick(self.now[peer])
         elif event.kind in ("write", "dispose", "unregister", "assert"):
             self.live[f"{peer}.{words[1]}"] = self.now[peer]
-        elif event.kind in ("match", "part") and words[1].startswith("r"):
+        elif event.kind in TELLINGS and words[1].startswith("r"):
+            if event.kind == "meet":
+                self.meet(f"{peer}.{words[1]}", *words[2:])
             self.tell(f"{peer}.{words[1]}", words[2], event.kind)
         elif event.kind == "listener":
             self.listeners[peer, words[1]] = 65_535 if words[2] == "any" else int(words[2])
         elif event.kind == "unlisten":
             self.listeners.pop((peer, words[1]), None)
+
+    def meet(self, reader: str, writer: str, prefix: str, entity: str, *options: str) -> None:
+        """A reader is told of a writer that it may not know."""
+        peer, number = writer.split(".w")
+        end, guid = End(int(peer), "w", int(number), bytes.fromhex(entity), options), bytes.fromhex(prefix + entity)
+        if self.config.end(writer) is None:
+            self.met.setdefault(guid, end)
+        self.instances[reader].know(end, guid)
+        self.proxies.setdefault((reader, writer), Proxy(self.instances[reader].reader.is_best_effort))
 
     def tell(self, reader: str, writer: str, word: str) -> None:
         """A reader is told that it is matched with a writer, or no longer."""
@@ -200,10 +213,9 @@ class Follower:
         own = self.config.prefixes[peer - 1]
         is_own = wire.destination(packet.read) in (None, own)
         sender, said = packet.read[8:20], wire.said_by(packet.read) if is_own else dg.statements(packet.read, own)[1]
-        source = self.config.peer_of(sender)
         touched: dict[tuple[str, str], str] = {}
         for it in said:
-            writer = self.entity(source, "w", it.writer) if source and it.kind != "acknack" else None
+            writer = self.writer_of(sender, it.writer) if it.kind != "acknack" else None
             for reader in self.named(peer, it, writer) if writer else []:
                 pair = reader.path, writer.path
                 touched.setdefault(pair, self.texts.get(pair) or self.proxies[pair].text())
@@ -216,9 +228,13 @@ class Follower:
     def entity(self, peer: int | None, kind: str, entity: bytes) -> End | None:
         return next((it for it in self.config.of(peer or 0, kind) if it.entity == entity), None)
 
+    def writer_of(self, sender: bytes, entity: bytes) -> End | None:
+        """The writer of a GUID, which the configuration lists or a reader has met."""
+        return self.entity(self.config.peer_of(sender), "w", entity) or self.met.get(sender + entity)
+
     def named(self, peer: int, said: dg.Said, writer: End) -> list[End]:
         """The matched readers of a peer that a submessage names; where the place waits, those at which it may begin."""
-        found = [it for it in self.config.of(peer, "r") if it.topic == writer.topic and said.reader in (dg.UNKNOWN, it.entity)]
+        found = [it for it in self.config.of(peer, "r") if (it.path, writer.path) in self.proxies and said.reader in (dg.UNKNOWN, it.entity)]
         return [it for it in found if (it.path, writer.path) not in self.away
                 and ((it.path, writer.path) not in self.waiting or self.begins(it, said))]
 
@@ -295,7 +311,7 @@ class Follower:
                 if it.lease is not None and it.path in self.live and self.now[event.peer] - self.live[it.path] >= it.lease:
                     del self.live[it.path]
                     self.tell_status(it, LIVELINESS_LOST, told)
-        if event.kind in ("match", "part") and not event.is_refused and (end := self.config.end(f"{event.peer}.{event.words[1]}")) and end.kind == "w":
+        if event.kind in TELLINGS and not event.is_refused and (end := self.config.end(f"{event.peer}.{event.words[1]}")) and end.kind == "w":
             self.tell_status(end, PUBLICATION_MATCHED, told)
         for it in self.config.of(event.peer, "r"):
             for name in self.instances[it.path].end_event(at):
