@@ -1,5 +1,8 @@
 //! The lines that discovery is given.
 
+ghost use Rattle.std.specs.Prelude.{◌≡◌};
+ghost use Rattle.dds_script.specs.Numbers.{decimal_of};
+
 use dds_base::{Code, EntityId, Guid, GuidPrefix, Octets};
 use dds_discovery::BUILTIN_ENDPOINTS;
 use dds_script::{decimal, entity_id, guid_prefix, units, value, words_of};
@@ -69,7 +72,9 @@ fn participant(words: &[&str]) -> Option<Line> {
     Some(Line::Participant(participant, domain))
 }
 
-fn number(word: &str) -> Option<usize> {
+fn number(word: &str) -> Option<usize>
+    ensures read { result ≡ decimal_of word.now }
+{
     usize::try_from(decimal(word)?).ok()
 }
 

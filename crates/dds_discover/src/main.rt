@@ -1,7 +1,8 @@
 //! The program: the discovery of one participant, which answers lines. Who reads and writes them carries its datagrams,
 //! and says what time it is.
 //!
-//! Nothing is claimed by contracts here: what is printed is tested. What discovery does is proved in `dds_discovery`.
+//! Contracts say what is printed of what discovery did at a line, and the reply. They do not say which line words are, nor
+//! how participants and endpoints are listed: that is tested. What discovery does is proved in `dds_discovery`.
 //! Not here: sockets, a clock, and what a match does to a peer.
 #![tactic(auto)]
 

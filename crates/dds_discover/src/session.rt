@@ -1,8 +1,20 @@
 //! Discovery, asked line by line.
+//!
+//! `specs/Session.antt` says what is printed.
+
+ghost use Rattle.std.specs.Prelude.{◌≡◌, ◌++◌, IfOk, IsSomeAnd, OnOk, Some};
+ghost use Rattle.std.specs.Io.KnownBytes.{Appends};
+ghost use Rattle.std.specs.Option.{option_to_list};
+ghost use Rattle.rtps_discovery.specs.Steps.{farewells};
+ghost use Rattle.rtps_matching.specs.Misfits.{misfits};
+ghost use Rattle.rtps_matching.specs.Steps.{told_of_own};
+ghost use Rattle.dds_discovery.specs.Events.{added, ticked};
+ghost use Rattle.dds_discover.specs.Stages.{Begins, IsUnsaid, Says, SaysAddress, discovery_of, said_of};
+ghost use Rattle.dds_discover.specs.Session.{Delivered, Happens, Leads, Prints, Removes, Settles, done_lines, misfit_lines, packet_lines, presence_lines, ticked_lines, told_lines, where_answered};
 
 use crate::line::{Line, cause_of, line_of};
 use crate::reply::print_reply;
-use dds_base::{Code, EntityId, Guid, GuidPrefix, Octets};
+use dds_base::{Code, EntityId, Guid, GuidPrefix, Masks, Octets};
 use dds_discovery::{Discovery, Done, Step};
 use dds_script::{Fault, Lines, Status};
 use discovery_script::{
@@ -10,8 +22,8 @@ use discovery_script::{
     print_row, print_told,
 };
 use rtps_announcements::{Locator, Participant};
-use rtps_discovery::{Heard, Limits, Packet, Settings, Ticked};
-use rtps_matching::{End, Told};
+use rtps_discovery::{Heard, Limits, Packet, Settings, Ticked, Told as Presence};
+use rtps_matching::{End, Misfitting, Told};
 use std::alloc::{AllocError, Global};
 use std::io::{Read, Write};
 
@@ -46,62 +58,116 @@ struct Session {
     stage: Stage,
 }
 
-fn print_all_told(alloc: Global, told: Vec<Told>, output: &mut impl Write) -> Result<(), Fault> {
+fn print_all_told<W: Write>(alloc: Global, told: &[Told], output: &mut W) -> Result<(), Fault>
+    ensures printed { OnOk result
+        (Appends (W.contents output.old) (W.contents output.new) (told_lines told.now)) }
+{
     for one in told {
-        print_told(alloc, one, output)?;
+        print_told(alloc, *one, output)?;
     }
     Ok(())
 }
 
-fn print_packets(
-    alloc: Global,
-    packets: Vec<Packet>,
-    output: &mut impl Write,
-) -> Result<(), Fault> {
+fn print_packets<W: Write>(alloc: Global, packets: &[Packet], output: &mut W) -> Result<(), Fault>
+    ensures printed { OnOk result
+        (Appends (W.contents output.old) (W.contents output.new) (packet_lines packets.now)) }
+{
     for packet in packets {
-        print_packet(alloc, &packet, output)?;
+        print_packet(alloc, packet, output)?;
     }
     Ok(())
 }
 
-fn print_done(alloc: Global, done: Done, output: &mut impl Write) -> Result<(), Fault> {
-    let Done { told, packet } = done;
-    print_all_told(alloc, told, output)?;
+/// Prints a datagram, where there is one.
+fn print_any<W: Write>(alloc: Global, packet: &Option<Packet>, output: &mut W) -> Result<(), Fault>
+    ensures printed { OnOk result (Appends (W.contents output.old) (W.contents output.new)
+        (packet_lines (option_to_list packet.now))) }
+{
     match packet {
-        Some(packet) => print_packet(alloc, &packet, output),
+        Some(packet) => print_packet(alloc, packet, output),
         None => Ok(()),
     }
 }
 
-fn print_heard(alloc: Global, heard: Heard, output: &mut impl Write) -> Result<(), Fault> {
-    let Heard { told, packet } = heard;
-    if let Some(told) = told {
-        print_presence(alloc, told, output)?;
-    }
-    match packet {
-        Some(packet) => print_packet(alloc, &packet, output),
-        None => Ok(()),
-    }
-}
-
-fn print_ticked(alloc: Global, ticked: Ticked, output: &mut impl Write) -> Result<(), Fault> {
-    let Ticked { told, packets } = ticked;
+/// Prints who is there, or no more.
+fn print_presences<W: Write>(alloc: Global, told: &[Presence], output: &mut W) -> Result<(), Fault>
+    ensures printed { OnOk result
+        (Appends (W.contents output.old) (W.contents output.new) (presence_lines told.now)) }
+{
     for one in told {
-        print_presence(alloc, one, output)?;
+        print_presence(alloc, *one, output)?;
     }
-    print_packets(alloc, packets, output)
+    Ok(())
+}
+
+/// Prints this where it was told of anybody.
+fn print_presence_of<W: Write>(
+    alloc: Global,
+    told: Option<Presence>,
+    output: &mut W,
+) -> Result<(), Fault>
+    ensures printed { OnOk result (Appends (W.contents output.old) (W.contents output.new)
+        (presence_lines (option_to_list told))) }
+{
+    match told {
+        Some(told) => print_presence(alloc, told, output),
+        None => Ok(()),
+    }
+}
+
+fn print_misfits<W: Write>(
+    alloc: Global,
+    misfits: &[Misfitting],
+    output: &mut W,
+) -> Result<(), Fault>
+    ensures printed { OnOk result
+        (Appends (W.contents output.old) (W.contents output.new) (misfit_lines misfits.now)) }
+{
+    for misfit in misfits {
+        print_misfit(alloc, misfit, output)?;
+    }
+    Ok(())
+}
+
+fn print_done<W: Write>(alloc: Global, done: &Done, output: &mut W) -> Result<(), Fault>
+    ensures printed { OnOk result
+        (Appends (W.contents output.old) (W.contents output.new) (done_lines done.now)) }
+{
+    print_all_told(alloc, &done.told, output)?;
+    print_any(alloc, &done.packet, output)
+}
+
+fn print_heard<W: Write>(alloc: Global, heard: &Heard, output: &mut W) -> Result<(), Fault>
+    ensures printed { OnOk result (Appends (W.contents output.old) (W.contents output.new)
+        (presence_lines (option_to_list heard.now.told)
+        ++ packet_lines (option_to_list heard.now.packet))) }
+{
+    print_presence_of(alloc, heard.told, output)?;
+    print_any(alloc, &heard.packet, output)
+}
+
+fn print_ticked<W: Write>(alloc: Global, ticked: &Ticked, output: &mut W) -> Result<(), Fault>
+    ensures printed { OnOk result (Appends (W.contents output.old) (W.contents output.new)
+        (presence_lines ticked.now.told.items ++ packet_lines ticked.now.packets.items)) }
+{
+    print_presences(alloc, &ticked.told, output)?;
+    print_packets(alloc, &ticked.packets, output)
 }
 
 /// Does what an event leaves to do, and prints it. Answers whether there was memory for it.
-fn settle(
+fn settle<W: Write>(
     alloc: Global,
     discovery: &mut Discovery,
-    output: &mut impl Write,
-) -> Result<Result<(), Code>, Fault> {
-    for _ in 0..u64::MAX {
+    output: &mut W,
+) -> Result<Result<(), Code>, Fault>
+    ensures settled { IfOk result (λ answered.
+        Prints (W.contents output.old) (W.contents output.new)
+        (λ text. Settles discovery.old text discovery.new answered)) }
+{
+    for _count in 0..u64::MAX {
         match discovery.settle(alloc) {
             Ok(Step::Settled) => break,
-            Ok(Step::Done(done)) => print_done(alloc, done, output)?,
+            Ok(Step::Done(done)) => print_done(alloc, &done, output)?,
             Err(code) => return Ok(Err(code)),
         }
     }
@@ -109,72 +175,95 @@ fn settle(
 }
 
 /// An endpoint of ours more; prints whom it is matched with.
-fn add(
+fn add<W: Write>(
     alloc: Global,
     discovery: &mut Discovery,
     end: End,
-    output: &mut impl Write,
-) -> Result<Result<(), Code>, Fault> {
+    output: &mut W,
+) -> Result<Result<(), Code>, Fault>
+    ensures added { IfOk result (λ answered.
+        Prints (W.contents output.old) (W.contents output.new)
+        (λ text. Happens (told_lines (told_of_own end discovery.old.endpoints)) discovery.old
+        (added end discovery.old) text discovery.new answered)) }
+{
     match discovery.add(alloc, end) {
-        Ok(told) => print_all_told(alloc, told, output)?,
+        Ok(told) => print_all_told(alloc, &told, output)?,
         Err(code) => return Ok(Err(code)),
     }
     settle(alloc, discovery, output)
 }
 
 /// An endpoint of ours goes; prints whom it was matched with.
-fn remove(
+fn remove<W: Write>(
     alloc: Global,
     discovery: &mut Discovery,
     guid: &Guid,
-    output: &mut impl Write,
-) -> Result<Result<(), Code>, Fault> {
+    output: &mut W,
+) -> Result<Result<(), Code>, Fault>
+    ensures removed { IfOk result (λ answered.
+        Prints (W.contents output.old) (W.contents output.new)
+        (λ text. Removes guid.now discovery.old text discovery.new answered)) }
+{
     match discovery.remove(alloc, guid) {
-        Ok(told) => print_all_told(alloc, told, output)?,
+        Ok(told) => print_all_told(alloc, &told, output)?,
         Err(code) => return Ok(Err(code)),
     }
     settle(alloc, discovery, output)
 }
 
 /// Time goes on; prints who is gone, and what is sent.
-fn tick(
+fn tick<W: Write>(
     alloc: Global,
     discovery: &mut Discovery,
     moment: u64,
-    output: &mut impl Write,
-) -> Result<Result<(), Code>, Fault> {
+    output: &mut W,
+) -> Result<Result<(), Code>, Fault>
+    ensures ticked { IfOk result (λ answered.
+        Prints (W.contents output.old) (W.contents output.new)
+        (λ text. Happens (ticked_lines moment discovery.old) discovery.old
+        (ticked moment discovery.old) text discovery.new answered)) }
+{
     match discovery.tick(alloc, moment) {
-        Ok(ticked) => print_ticked(alloc, ticked, output)?,
+        Ok(ticked) => print_ticked(alloc, &ticked, output)?,
         Err(code) => return Ok(Err(code)),
     }
     settle(alloc, discovery, output)
 }
 
 /// A datagram comes; prints what it leads to.
-fn deliver(
+fn deliver<W: Write>(
     alloc: Global,
     discovery: &mut Discovery,
     moment: u64,
     address: &[u8; 4],
     bytes: &[u8],
-    output: &mut impl Write,
-) -> Result<Result<(), Code>, Fault> {
+    output: &mut W,
+) -> Result<Result<(), Code>, Fault>
+    ensures delivered { IfOk result (λ answered.
+        Prints (W.contents output.old) (W.contents output.new)
+        (λ text. Delivered Masks.ANY moment address.now bytes.now
+        discovery.old text discovery.new answered)) }
+{
     match discovery.deliver(alloc, moment, address, bytes) {
-        Ok(heard) => print_heard(alloc, heard, output)?,
+        Ok(heard) => print_heard(alloc, &heard, output)?,
         Err(code) => return Ok(Err(code)),
     }
     settle(alloc, discovery, output)
 }
 
 /// Our participant leaves; prints what is sent.
-fn close(
+fn close<W: Write>(
     alloc: Global,
     discovery: &Discovery,
-    output: &mut impl Write,
-) -> Result<Result<(), Code>, Fault> {
+    output: &mut W,
+) -> Result<Result<(), Code>, Fault>
+    ensures printed { IfOk result (λ answered.
+        Appends (W.contents output.old) (W.contents output.new)
+        (where_answered answered (packet_lines (farewells discovery.now.participants)))) }
+{
     match discovery.close(alloc) {
         Ok(packets) => {
-            print_packets(alloc, packets, output)?;
+            print_packets(alloc, &packets, output)?;
             Ok(Ok(()))
         }
         Err(code) => Ok(Err(code)),
@@ -182,16 +271,19 @@ fn close(
 }
 
 /// Prints which pairs of one topic do not fit.
-fn look(
+fn look<W: Write>(
     alloc: Global,
     discovery: &Discovery,
-    output: &mut impl Write,
-) -> Result<Result<(), Code>, Fault> {
+    output: &mut W,
+) -> Result<Result<(), Code>, Fault>
+    ensures printed { IfOk result (λ answered.
+        Appends (W.contents output.old) (W.contents output.new)
+        (where_answered answered
+        (misfit_lines (misfits discovery.now.endpoints.own discovery.now.endpoints.far)))) }
+{
     match discovery.misfits(alloc) {
         Ok(misfits) => {
-            for misfit in misfits.iter() {
-                print_misfit(alloc, misfit, output)?;
-            }
+            print_misfits(alloc, &misfits, output)?;
             Ok(Ok(()))
         }
         Err(code) => Ok(Err(code)),
@@ -215,7 +307,9 @@ fn print_all(
 }
 
 impl Beginning {
-    fn new(alloc: Global) -> Self {
+    fn new(alloc: Global) -> Self
+        ensures unsaid { IsUnsaid result }
+    {
         Beginning {
             participant: None,
             addresses: Vec::new(alloc),
@@ -225,14 +319,18 @@ impl Beginning {
     }
 
     /// One more address.
-    fn tell(&mut self, address: Locator) -> Result<(), AllocError> {
+    fn tell(&mut self, address: Locator) -> Result<(), AllocError>
+        ensures said { OnOk result (SaysAddress address self.old self.new) }
+    {
         self.addresses.push(address)?;
         Ok(())
     }
 }
 
 impl Session {
-    fn new(alloc: Global) -> Self {
+    fn new(alloc: Global) -> Self
+        ensures unsaid { IsSomeAnd (said_of result.stage) IsUnsaid }
+    {
         Session {
             alloc,
             prefix: GuidPrefix::UNKNOWN,
@@ -247,7 +345,11 @@ impl Session {
     }
 
     /// Who we are: of several lines the last counts.
-    fn name(&mut self, participant: Participant, domain: u32, number: u64) -> Result<(), Fault> {
+    fn name(&mut self, participant: Participant, domain: u32, number: u64) -> Result<(), Fault>
+        ensures said { Says (λ b c. c ≡ record b { participant = Some (participant, domain) })
+            self.old.stage result self.new.stage }
+        ensures prefix { self.new.prefix ≡ participant.prefix }
+    {
         self.prefix = participant.prefix;
         let Stage::Naming(beginning) = &mut self.stage else {
             return Err(self.too_late(number));
@@ -257,7 +359,10 @@ impl Session {
     }
 
     /// One more address is told of us.
-    fn tell(&mut self, address: Locator, number: u64) -> Result<(), Fault> {
+    fn tell(&mut self, address: Locator, number: u64) -> Result<(), Fault>
+        ensures said { Says (SaysAddress address) self.old.stage result self.new.stage }
+        ensures prefix { self.new.prefix ≡ self.old.prefix }
+    {
         let Stage::Naming(beginning) = &mut self.stage else {
             return Err(self.too_late(number));
         };
@@ -265,7 +370,11 @@ impl Session {
     }
 
     /// How many are known at most: of several lines the last counts.
-    fn limit(&mut self, limits: Limits, most: usize, number: u64) -> Result<(), Fault> {
+    fn limit(&mut self, limits: Limits, most: usize, number: u64) -> Result<(), Fault>
+        ensures said { Says (λ b c. c ≡ record b { limits = limits; most = most })
+            self.old.stage result self.new.stage }
+        ensures prefix { self.new.prefix ≡ self.old.prefix }
+    {
         let Stage::Naming(beginning) = &mut self.stage else {
             return Err(self.too_late(number));
         };
@@ -275,7 +384,11 @@ impl Session {
     }
 
     /// Discovery begins, once, after our participant was said.
-    fn open(&mut self, number: u64) -> Result<Result<(), Code>, Fault> {
+    fn open(&mut self, number: u64) -> Result<Result<(), Code>, Fault>
+        ensures begun { IfOk result (λ answered. IsSomeAnd (said_of self.old.stage)
+            (λ b. IsSomeAnd b.participant (λ who. Begins b who self.new.stage answered))) }
+        ensures prefix { self.new.prefix ≡ self.old.prefix }
+    {
         let stage = std::mem::replace(&mut self.stage, Stage::Refused);
         let Stage::Naming(beginning) = stage else {
             let cause = "discovery has begun";
@@ -307,12 +420,17 @@ impl Session {
     }
 
     /// Something happens where discovery has begun.
-    fn happen(
+    fn happen<W: Write>(
         &mut self,
         line: Line,
         number: u64,
-        output: &mut impl Write,
-    ) -> Result<Result<(), Code>, Fault> {
+        output: &mut W,
+    ) -> Result<Result<(), Code>, Fault>
+        ensures happened { IfOk result (λ answered. IsSomeAnd (discovery_of self.old.stage)
+            (λ s. IsSomeAnd (discovery_of self.new.stage) (λ t. Leads Masks.ANY line
+            self.old.prefix s (W.contents output.old) (W.contents output.new) t answered))) }
+        ensures prefix { self.new.prefix ≡ self.old.prefix }
+    {
         let alloc = self.alloc;
         let Stage::Open(discovery) = &mut self.stage else {
             let cause = "discovery has not begun; `open` begins it";

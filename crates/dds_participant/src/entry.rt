@@ -1,5 +1,8 @@
 //! What the program does with its words.
 
+ghost use Rattle.std.specs.Prelude.{◌≡◌, ◌++◌, ◌∷◌, [], Ok, IfOk, IfSome, OnOk, take};
+ghost use Rattle.dds_participant.specs.Words.{all_locators, locators_of, machine_locators};
+
 use crate::failure::Failure;
 use crate::moments::Moments;
 use crate::port::{Port, group_port, own_address, unicast_port};
@@ -41,7 +44,9 @@ const USUAL: [Target; 2] = [
 /// A name that nobody has: two octets of zeros, as we have no vendor id, and ten of chance.
 ///
 /// RTPS 2.5, 9.3 (GuidPrefix_t).
-fn new_prefix(chance: &impl RandomSource) -> Result<GuidPrefix, Failure> {
+fn new_prefix(chance: &impl RandomSource) -> Result<GuidPrefix, Failure>
+    ensures zeros { IfOk result (λ prefix. take 2 prefix.0 ≡ 0 ∷ 0 ∷ []) }
+{
     let mut prefix = [0u8; 12];
     if chance.fill_bytes(&mut prefix[2..]).is_err() {
         return Err(Failure::NoRandom);
@@ -50,11 +55,10 @@ fn new_prefix(chance: &impl RandomSource) -> Result<GuidPrefix, Failure> {
 }
 
 /// Appends the addresses of a target: its port, or those of the domain.
-fn put_target(
-    addresses: &mut Vec<Locator>,
-    target: &Target,
-    domain: u32,
-) -> Result<(), AllocError> {
+fn put_target(addresses: &mut Vec<Locator>, target: &Target, domain: u32) -> Result<(), AllocError>
+    ensures put { OnOk result (addresses.new.items
+        ≡ addresses.old.items ++ locators_of domain target.now) }
+{
     let address = target.address;
     if let Some(port) = target.port {
         addresses.push(Locator { address, port })?;
@@ -72,7 +76,10 @@ fn put_machine(
     addresses: &mut Vec<Locator>,
     address: [u8; 4],
     domain: u32,
-) -> Result<(), AllocError> {
+) -> Result<(), AllocError>
+    ensures put { OnOk result (addresses.new.items
+        ≡ addresses.old.items ++ machine_locators domain address) }
+{
     for index in 0..TOLD_INDICES {
         let port = unicast_port(domain, index);
         addresses.push(Locator { address, port })?;
@@ -81,11 +88,9 @@ fn put_machine(
 }
 
 /// Who is told of us.
-fn addresses_of(
-    alloc: Global,
-    targets: &[Target],
-    domain: u32,
-) -> Result<Vec<Locator>, AllocError> {
+fn addresses_of(alloc: Global, targets: &[Target], domain: u32) -> Result<Vec<Locator>, AllocError>
+    ensures all { IfOk result (λ all. all.items ≡ all_locators domain targets.now) }
+{
     let targets = if targets.is_empty() {
         USUAL.as_slice()
     } else {
@@ -103,7 +108,9 @@ fn address_of<R: Net>(
     rt: &R,
     interface: Option<[u8; 4]>,
     told: &[Locator],
-) -> Result<[u8; 4], Failure> {
+) -> Result<[u8; 4], Failure>
+    ensures said { IfSome interface (λ address. result ≡ Ok address) }
+{
     match (interface, told.first()) {
         (Some(address), _) => Ok(address),
         (None, Some(to)) => own_address(rt, to),
@@ -112,7 +119,16 @@ fn address_of<R: Net>(
 }
 
 /// What we announce of ourselves.
-fn participant_at(prefix: GuidPrefix, locator: Locator) -> Participant {
+fn participant_at(prefix: GuidPrefix, locator: Locator) -> Participant
+    ensures announced { result ≡ record {
+      prefix = prefix;
+      vendor = VendorId.UNKNOWN;
+      builtin_endpoints = BUILTIN_ENDPOINTS;
+      lease = USUAL_LEASE;
+      metatraffic = locator ∷ [];
+      default = locator ∷ [];
+    } }
+{
     Participant {
         prefix,
         vendor: VendorId::UNKNOWN,

@@ -1,5 +1,8 @@
 //! What ends the program early.
 
+ghost use Rattle.std.specs.Prelude.{◌≡◌};
+ghost use Rattle.dds_participant.specs.Failures.{exit_of};
+
 use dds_base::Code;
 use dds_script::Fault;
 use std::alloc::AllocError;
@@ -59,7 +62,9 @@ impl From<Fault> for Failure {
 
 impl Failure {
     /// The exit status: 2 for wrong words, else 1.
-    pub fn exit(&self) -> u8 {
+    pub fn exit(&self) -> u8
+        ensures status { result ≡ exit_of self.now }
+    {
         match self {
             Failure::Words(_) => 2,
             _ => 1,

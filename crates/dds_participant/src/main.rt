@@ -1,7 +1,10 @@
 //! The program: a participant on the network, over UDP. Its word `who` prints who is there: participants and the endpoints
 //! that they announce, which endpoints of ours are matched with them, and why one is not.
 //!
-//! Nothing is claimed by contracts here: what is printed is tested. What discovery does is proved in `dds_discovery`.
+//! Contracts say which ports are those of a domain, to whom we announce ourselves, what an option of one word sets, which
+//! lines are printed of what discovery told and which datagrams are sent for it, and the exit status of a failure. They do
+//! not say how a participant or an endpoint is listed, nor what sockets and the clock give: that is tested. What
+//! discovery does is proved in `dds_discovery`.
 //! Not here: samples. No endpoint of ours sends or takes any.
 #![tactic(auto)]
 

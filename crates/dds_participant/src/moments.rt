@@ -1,5 +1,8 @@
 //! Moments, in units of 2^-32 second: since 1970 where we begin, and from then on by a clock that does not go back.
 
+ghost use Rattle.std.specs.Prelude.{◌≡◌, ◌+◌};
+ghost use Rattle.dds_participant.specs.Moments.{at_most_64_bits, units};
+
 use crate::failure::Failure;
 use std::time::{Clock, Duration};
 
@@ -10,7 +13,9 @@ pub struct Moments {
     began: Duration,
 }
 
-fn units(time: Duration) -> u64 {
+fn units(time: Duration) -> u64
+    ensures rounded { result ≡ units time }
+{
     let parts = u64::from(time.subsec_nanos()).saturating_mul(1 << 32) / 1_000_000_000;
     time.as_secs().saturating_mul(1 << 32).saturating_add(parts)
 }
@@ -36,7 +41,9 @@ impl Moments {
     }
 
     /// The moment so long after.
-    pub fn after(self, elapsed: Duration) -> u64 {
+    pub fn after(self, elapsed: Duration) -> u64
+        ensures later { result ≡ at_most_64_bits (self.since_1970 + units elapsed) }
+    {
         self.since_1970.saturating_add(units(elapsed))
     }
 }

@@ -2,7 +2,9 @@
 //!
 //! RTPS 2.5, 9.6.2 (UDP: well-known ports).
 
-ghost use Rattle.std.specs.Prelude.{◌≤◌, vec_len};
+ghost use Rattle.std.specs.Prelude.{◌≡◌, ◌≤◌, ◌<◌, ℕ, IfOk, take, vec_len};
+ghost use Rattle.std.specs.Bool.{OnFalse, OnTrue};
+ghost use Rattle.dds_participant.specs.Ports.{group_port, port_at, unicast_port};
 
 use crate::failure::Failure;
 use libc::net::{POLLIN, poll};
@@ -35,17 +37,24 @@ const UNICAST_OFFSET: u32 = 10;
 const PARTICIPANT_GAIN: u32 = 2;
 
 /// The port of the domain's group.
-pub fn group_port(domain: u32) -> u16 {
+pub fn group_port(domain: u32) -> u16
+    ensures port { result ≡ group_port domain }
+{
     port_at(domain, 0)
 }
 
 /// The port of a participant, by its index.
-pub fn unicast_port(domain: u32, index: u32) -> u16 {
+pub fn unicast_port(domain: u32, index: u32) -> u16
+    ensures port { result ≡ unicast_port domain index }
+{
     let offset = index.saturating_mul(PARTICIPANT_GAIN);
     port_at(domain, offset.saturating_add(UNICAST_OFFSET))
 }
 
-fn port_at(domain: u32, offset: u32) -> u16 {
+/// PB + DG * domainId + offset.
+fn port_at(domain: u32, offset: u32) -> u16
+    ensures port { result ≡ port_at domain offset }
+{
     let group = domain
         .saturating_mul(DOMAIN_GAIN)
         .saturating_add(FIRST_PORT);
@@ -96,7 +105,11 @@ impl Port {
         alloc: Global,
         address: [u8; 4],
         domain: u32,
-    ) -> Result<Port, Failure> {
+    ) -> Result<Port, Failure>
+        // It is one of the 120.
+        ensures locator { IfOk result (λ p. (index : ℕ) × (index < 120)
+            × (p.locator ≡ record { address = address; port = unicast_port domain index })) }
+    {
         for index in 0..INDICES {
             let port = unicast_port(domain, index);
             match rt.bind_udp(socket_address(address, port)) {
@@ -108,7 +121,9 @@ impl Port {
         Err(Failure::NoPort(domain))
     }
 
-    fn at(alloc: Global, socket: UdpSocket, locator: Locator) -> Result<Port, Failure> {
+    fn at(alloc: Global, socket: UdpSocket, locator: Locator) -> Result<Port, Failure>
+        ensures locator { IfOk result (λ p. p.locator ≡ locator) }
+    {
         if socket.set_nonblocking(true).is_err() {
             return Err(Failure::SocketFailed);
         }
@@ -122,7 +137,9 @@ impl Port {
     }
 
     /// Where it is.
-    pub fn locator(&self) -> Locator {
+    pub fn locator(&self) -> Locator
+        ensures kept { result ≡ self.now.locator }
+    {
         self.locator
     }
 
@@ -139,7 +156,11 @@ impl Port {
         asked[1].revents != 0
     }
 
-    fn keep(&mut self, count: usize, from: SocketAddr) -> bool {
+    fn keep(&mut self, count: usize, from: SocketAddr) -> bool
+        ensures count { OnTrue result (self.new.count ≡ count) }
+        ensures buffer { self.new.buffer ≡ self.old.buffer }
+        ensures same { OnFalse result (self.new ≡ self.old) }
+    {
         let Some(source) = address_of(from) else {
             return false;
         };
@@ -162,12 +183,16 @@ impl Port {
     }
 
     /// The address that the last datagram came from.
-    pub fn source(&self) -> &[u8; 4] {
+    pub fn source(&self) -> &[u8; 4]
+        ensures kept { result.now ≡ self.now.source }
+    {
         &self.source
     }
 
     /// The octets of the last datagram.
-    pub fn octets(&self) -> &[u8] {
+    pub fn octets(&self) -> &[u8]
+        ensures kept { result.now ≡ take self.now.count self.now.buffer.items }
+    {
         &self.buffer[..self.count]
     }
 

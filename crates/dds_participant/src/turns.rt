@@ -1,5 +1,8 @@
 //! Turns: what came is heard, time goes on, and what comes of it is printed and sent.
 
+ghost use Rattle.std.specs.Prelude.{◌≡◌, [], IfErr, OnOk};
+ghost use Rattle.std.specs.Io.KnownBytes.{Appends};
+
 use crate::failure::Failure;
 use crate::moments::Moments;
 use crate::port::Port;
@@ -20,7 +23,11 @@ pub struct Live {
 }
 
 /// Prints lines, and sends datagrams.
-pub fn give(port: &Port, answer: &Answer, output: &mut impl Write) -> Result<(), Failure> {
+pub fn give<W: Write>(port: &Port, answer: &Answer, output: &mut W) -> Result<(), Failure>
+    ensures printed { OnOk result
+        (Appends (W.contents output.old) (W.contents output.new) answer.now.lines.items) }
+    ensures refused { IfErr result (λ e. e ≡ Failure.OutputFailed) }
+{
     for packet in answer.packets.iter() {
         port.send(packet);
     }
@@ -90,7 +97,10 @@ impl Live {
     }
 
     /// We say that we leave.
-    pub fn leave(&self, alloc: Global, output: &mut impl Write) -> Result<(), Failure> {
+    pub fn leave<W: Write>(&self, alloc: Global, output: &mut W) -> Result<(), Failure>
+        // Nothing is printed.
+        ensures printed { OnOk result (Appends (W.contents output.old) (W.contents output.new) []) }
+    {
         let mut answer = Answer::new(alloc);
         self.watcher.close(&mut answer)?;
         give(&self.port, &answer, output)

@@ -1,5 +1,10 @@
 //! The words of the command line.
 
+ghost use Rattle.std.specs.Prelude.{◌≡◌, ◌++◌, ◌∷◌, [], IfOk, MatchBool, OnOk, is_some};
+ghost use Rattle.std.specs.Option.{option_map, option_to_list};
+ghost use Rattle.rtps_matching.specs.declared.end.End.{End};
+ghost use Rattle.dds_participant.specs.Words.{IsUsual, domain_of, entity_of, target_of, with_option};
+
 use crate::failure::Failure;
 use dds_base::{Code, EntityId, Guid, GuidPrefix};
 use dds_script::decimal;
@@ -40,7 +45,9 @@ pub struct Request {
     pub ends: Vec<End>,
 }
 
-fn domain(word: &str) -> Option<u32> {
+fn domain(word: &str) -> Option<u32>
+    ensures read { result ≡ domain_of word.now }
+{
     let number = decimal(word)?;
     if number > MAX_DOMAIN {
         return None;
@@ -48,7 +55,9 @@ fn domain(word: &str) -> Option<u32> {
     u32::try_from(number).ok()
 }
 
-fn target_of(word: &str) -> Option<Target> {
+fn target_of(word: &str) -> Option<Target>
+    ensures read { result ≡ target_of word.now }
+{
     if let Some(address) = address(word) {
         return Some(Target {
             address,
@@ -61,7 +70,9 @@ fn target_of(word: &str) -> Option<Target> {
 }
 
 /// The entity id of a writer or a reader of this number, with a key.
-fn entity_of(kind: EndpointKind, number: u8) -> EntityId {
+fn entity_of(kind: EndpointKind, number: u8) -> EntityId
+    ensures entity { result ≡ entity_of kind number }
+{
     match kind {
         EndpointKind::Writer => EntityId([0, 0, number, 0x02]),
         EndpointKind::Reader => EntityId([0, 0, number, 0x07]),
@@ -69,7 +80,9 @@ fn entity_of(kind: EndpointKind, number: u8) -> EntityId {
 }
 
 impl Request {
-    fn new(alloc: Global) -> Request {
+    fn new(alloc: Global) -> Request
+        ensures usual { IsUsual result }
+    {
         Request {
             domain: 0,
             targets: Vec::new(alloc),
@@ -80,7 +93,12 @@ impl Request {
     }
 
     /// One more address.
-    fn tell(&mut self, word: &str) -> Result<bool, Code> {
+    fn tell(&mut self, word: &str) -> Result<bool, Code>
+        ensures read { IfOk result (λ told. told ≡ is_some (target_of word.now)) }
+        ensures targets { OnOk result (self.new.targets.items
+            ≡ self.old.targets.items ++ option_to_list (target_of word.now)) }
+        ensures rest { self.new ≡ record self.old { targets = self.new.targets } }
+    {
         let Some(target) = target_of(word) else {
             return Ok(false);
         };
@@ -95,7 +113,13 @@ impl Request {
         prefix: GuidPrefix,
         kind: EndpointKind,
         words: &[&str],
-    ) -> Result<bool, Code> {
+    ) -> Result<bool, Code>
+        // It stands last, where it was added.
+        ensures ends { IfOk result (λ added. MatchBool added
+            ((e : End) × (self.new.ends.items ≡ self.old.ends.items ++ e ∷ []))
+            (self.new.ends.items ≡ self.old.ends.items)) }
+        ensures rest { self.new ≡ record self.old { ends = self.new.ends } }
+    {
         let Ok(number) = u8::try_from(self.ends.len().saturating_add(1)) else {
             return Ok(false);
         };
@@ -111,12 +135,17 @@ impl Request {
     }
 
     /// Takes up an option of one word; whether it is one.
-    fn set(&mut self, name: &str, word: &str) -> Option<()> {
-        match name {
-            "--domain" => self.domain = domain(word)?,
-            "--interface" => self.interface = Some(address(word)?),
-            "--seconds" => self.seconds = Some(decimal(word)?),
-            _ => return None,
+    fn set(&mut self, name: &str, word: &str) -> Option<()>
+        ensures set { option_map (λ _. self.new) result ≡ with_option name.now word.now self.old }
+    {
+        if name == "--domain" {
+            self.domain = domain(word)?;
+        } else if name == "--interface" {
+            self.interface = Some(address(word)?);
+        } else if name == "--seconds" {
+            self.seconds = Some(decimal(word)?);
+        } else {
+            return None;
         }
         Some(())
     }

@@ -1,3 +1,4 @@
 pub mod Addresses
 pub mod Announced
+pub mod Misfits
 pub mod Told

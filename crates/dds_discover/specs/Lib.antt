@@ -1,0 +1,3 @@
+pub mod Says
+pub mod Session
+pub mod Stages

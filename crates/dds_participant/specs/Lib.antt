@@ -1,0 +1,6 @@
+pub mod Ports
+pub mod Moments
+pub mod Failures
+pub mod Words
+pub mod Sight
+pub mod Watching

@@ -1,0 +1,70 @@
+-- What the words of the command line ask for, and who is told of us.
+use Rattle.std.specs.Prelude.{◌≡◌, ℕ, List, [], ◌∷◌, map, codes, Option, Some, None, if◌then◌else◌}
+use Rattle.std.specs.List.{flat_map, range_with_len}
+use Rattle.std.specs.Option.{option_map, option_or}
+use Rattle.std.specs.Str.{bytes_eq}
+use Rattle.dds_base.specs.declared.guid.EntityId.{EntityId}
+use Rattle.dds_script.specs.Numbers.{decimal_of}
+use Rattle.rtps_announcements.specs.declared.locator.Locator.{Locator}
+use Rattle.rtps_announcements.specs.declared.qos.EndpointKind.{EndpointKind}
+use Rattle.rtps_announcements.specs.declared.qos.EndpointKind.TheVariants.{Reader, Writer}
+use Rattle.discovery_script.specs.Addresses.{address_of, locator_of, number_below}
+use Rattle.dds_participant.specs.declared.words.Request.{Request}
+use Rattle.dds_participant.specs.declared.words.Target.{Target}
+use Rattle.dds_participant.specs.Ports.{group_port, is_group, unicast_port}
+
+-- a domain has a number up to 230: above it ports end (RTPS 2.5, 9.6.2)
+abbrev pub domain_of : List ℕ → Option ℕ
+domain_of word = number_below 231 word
+
+-- an address alone, or one with its port
+abbrev pub target_of : List ℕ → Option Target
+target_of word =
+    option_or (option_map (λ (a : List ℕ). record { address = a; port = None }) (address_of word))
+    (option_map (λ (l : Locator). record { address = l.address; port = Some l.port }) (locator_of word))
+
+-- the entity id of a writer or a reader of a number, with a key (RTPS 2.5, 9.3.1.2: entityKind)
+abbrev pub entity_of : EndpointKind → ℕ → EntityId
+entity_of Writer number = record { 0 = 0 ∷ 0 ∷ number ∷ 0x02 ∷ [] }
+entity_of Reader number = record { 0 = 0 ∷ 0 ∷ number ∷ 0x07 ∷ [] }
+
+-- what is asked for where no option stands
+pub record IsUsual (r : Request) : Type 0 where
+  pub domain : r.domain ≡ 0
+  pub targets : r.targets.items ≡ []
+  pub interface : r.interface ≡ None
+  pub seconds : r.seconds ≡ None
+  pub ends : r.ends.items ≡ []
+
+-- what is asked for where an option of one word stands too; none where it is no such option, or not with this word
+abbrev pub with_option : List ℕ → List ℕ → Request → Option Request
+with_option name word r =
+    if bytes_eq name (codes "--domain") then option_map (λ (n : ℕ). record r { domain = n }) (domain_of word)
+    else if bytes_eq name (codes "--interface")
+    then option_map (λ (a : List ℕ). record r { interface = Some a }) (address_of word)
+    else if bytes_eq name (codes "--seconds") then option_map (λ (n : ℕ). record r { seconds = Some n }) (decimal_of word)
+    else None
+
+-- the ports of the first ten participants of a machine
+abbrev pub machine_locators : ℕ → List ℕ → List Locator
+machine_locators domain address =
+    map (λ (index : ℕ). record { address = address; port = unicast_port domain index }) (range_with_len 0 10)
+
+-- where we are told of at an address: at its port, or at those of the domain
+abbrev pub locators_at : ℕ → List ℕ → Option ℕ → List Locator
+locators_at domain address (Some port) = record { address = address; port = port } ∷ []
+locators_at domain address None =
+    if is_group address then record { address = address; port = group_port domain } ∷ []
+    else machine_locators domain address
+
+abbrev pub locators_of : ℕ → Target → List Locator
+locators_of domain target = locators_at domain target.address target.port
+
+-- where no address was said: the group of all participants, 239.255.0.1, and this machine (RTPS 2.5, 9.6.2)
+abbrev pub usual_targets : List Target
+usual_targets =
+    record { address = 239 ∷ 255 ∷ 0 ∷ 1 ∷ []; port = None } ∷ record { address = 127 ∷ 0 ∷ 0 ∷ 1 ∷ []; port = None } ∷ []
+
+abbrev pub all_locators : ℕ → List Target → List Locator
+all_locators domain [] = flat_map (locators_of domain) usual_targets
+all_locators domain targets = flat_map (locators_of domain) targets
