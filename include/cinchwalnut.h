@@ -12,7 +12,7 @@
  *    the forked child of a process with threads.
  *  - No prefix is used again. A peer that is opened under the prefix of an earlier one begins to count at 1, and the others
  *    take its changes for ones that they had: as many as the earlier one wrote are lost, with no code and no status. So a
- *    process that starts anew takes a new prefix, and all that list it open anew: examples/c/restart.c.
+ *    process that starts anew takes a new prefix, and the others meet it or open anew: examples/c/meeting.c, restart.c.
  * All else is answered by a code: a peer that is not open, or closed twice; a call while another thread's is under way; NULL
  * with a length above 0; a number, an index, a length, a mask or octets of any value; memory that is refused. */
 #ifndef CINCHWALNUT_H
@@ -384,7 +384,8 @@ uint8_t cw_match_writer(cw_peer *peer, uint8_t reader, uint32_t writer_peer, uin
 uint8_t cw_unmatch_writer(cw_peer *peer, uint8_t reader, uint32_t writer_peer, uint8_t writer);
 /* The same of a writer that no configuration has to list, with numbers as those of cw_meet_reader; its entity ends with 0x02,
  * strength is its OWNERSHIP_STRENGTH, and its lease, from 1, in units of 2^-32 second, counts where has_lease; else, and from
- * 2^31 - 1 seconds on, it has none. One that the reader did not know has the next publication handle, which cw_handle fetches.
+ * 2^31 - 1 seconds on, it has none. One that the reader knew keeps strength, lease and publication handle; another has the next
+ * handle, which cw_handle fetches.
  * Codes as those of cw_meet_reader, and CW_BAD_PARAMETER for a lease of 0; CW_OUT_OF_RESOURCES where the reader knows 2^31 - 1
  * other writers. */
 uint8_t cw_meet_writer(cw_peer *peer, uint8_t reader, uint32_t writer_peer, uint8_t writer, const uint8_t prefix[12],

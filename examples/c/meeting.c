@@ -1,4 +1,4 @@
-/* Two peers that are told of ends that their configurations don't list. A process with a writer comes back under a new prefix,
+/* Two peers that are told of ends that no configuration matches with theirs. A process with a writer comes back under a new prefix,
  * and the reader meets it, by a number that nobody had, and is not opened anew. Then a reader of another topic meets the same
  * writer. At last both kinds of meeting are recorded. */
 #include "cinchwalnut_record.h"

@@ -1,5 +1,5 @@
-"""A peer that is alone in its configuration, and meets a reader and a writer: what it sends to the one, and what it takes of the
-other, in its recording."""
+"""A peer that is alone in its configuration, and meets a reader and a writer: what it sends to the one, the other's publication
+handle, and its recording."""
 import contextlib
 import io
 

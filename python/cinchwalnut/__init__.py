@@ -1,7 +1,8 @@
 """Peers of the Data Distribution Service, over libcinchwalnut.so: docs/C.md says how it is built, and what is proved of it.
 
 It has the calls of include/cinchwalnut.h, which says what each does, by their names without `cw_`. `cw_open` is `Peer(..)`,
-`cw_open_text` is `Peer.from_text`, and `cw_observe_writer` is `observe(.., writer=..)`."""
+`cw_open_text` is `Peer.from_text`, `cw_greet_reader` is `match_reader(.., greeted=True)`, and `cw_observe_writer` is
+`observe(.., writer=..)`."""
 from ._codes import (
     ANY,
     BadParameter,

@@ -17,7 +17,7 @@ _CAUSES: Dict[Tuple[int, str], str] = {
     **{(_BAD, it): "{1} is none of the topic of {0}" for it in ("match", "part")},
     (_BAD, "meet"): "{1} has a number, a GUID, a RELIABILITY or a lease that it can't have",
     **{(_NOT_NOW, it): "{0} and {1} are matched" for it in ("match", "meet")},
-    (Code.OUT_OF_RESOURCES, "meet"): "{0} knows as many others as it can",
+    (Code.OUT_OF_RESOURCES, "meet"): "{0} knows as many others there as it can",
     (_NOT_NOW, "part"): "{0} and {1} are not matched",
     **{(_BAD, it): "there is no condition {0}" for it in ("setguard", "delete")},
     **{(_BAD, it): "there is no WaitSet {0}, or no condition {1}" for it in ("attach", "detach")},

@@ -29,8 +29,8 @@ pub struct WriterConfig {
     pub topic: u32,
     /// The same as that of each matched reader (DDS 1.4, 2.2.3, OWNERSHIP).
     pub ownership: OwnershipQos,
-    /// A best-effort one is matched with best-effort readers alone: it keeps nothing for them, and waits for none (DDS
-    /// 1.4, 2.2.3, RELIABILITY).
+    /// A best-effort one is matched at the opening with best-effort readers alone: it keeps nothing for them, and waits
+    /// for none (DDS 1.4, 2.2.3, RELIABILITY).
     pub reliability: ReliabilityQos,
     /// A depth is at least 1, and at most `max_samples` where that is a limit.
     pub history: HistoryQos,

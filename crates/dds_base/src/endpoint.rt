@@ -2,7 +2,7 @@
 //!
 //! RTPS 2.5, 8.2 (Endpoint).
 
-/// A writer or a reader, by its peer and by its number there; both count from 1, in the order of the configuration.
+/// A writer or a reader, by its peer and by its number there, both from 1: those of a configuration in its order.
 /// Writers and readers are numbered apart, so an endpoint alone doesn't say which of the two it is.
 ///
 /// RTPS 2.5, 8.2 (Endpoint).

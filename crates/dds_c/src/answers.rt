@@ -164,7 +164,7 @@ fn handle_out(reply: &Reply, handle: &mut u64) -> u8
 }
 
 /// The handle that `cw_lookup_instance` asked for, 0 where the instance is not known (DDS 1.4, 2.2.2.5,
-/// lookup_instance); after `cw_match_writer` that of the publication.
+/// lookup_instance); after `cw_match_writer` and `cw_meet_writer` that of the publication.
 ///
 /// # Errors
 ///

@@ -261,8 +261,9 @@ pub enum Call {
     /// A reader is told of a writer that it may not know, under a name of the caller's choice: the two are matched from
     /// now on, as by `MatchWriter`. One that it does not know has the next publication handle, which is answered.
     /// `BadParameter` where the peer has no such reader, where the numbers, the GUID and the name are as they may not be
-    /// for `MeetReader`, the entity is no writer, or the writer's lease is 0; `PreconditionNotMet` where the two are
-    /// matched, `OutOfResources` where the reader knows 2^31 - 1 other writers. It sends nothing.
+    /// for `MeetReader`, the entity is no writer, or the writer's lease is 0, or 2^31 seconds and more;
+    /// `PreconditionNotMet` where the two are matched, `OutOfResources` where the reader knows 2^31 - 1 other writers.
+    /// It sends nothing.
     ///
     /// RTPS 2.5, 8.4.10.3 (matched_writer_add).
     MeetWriter {

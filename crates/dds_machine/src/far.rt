@@ -24,7 +24,7 @@ pub struct FarWriter {
     pub endpoint: Endpoint,
     /// Its GUID, which no other writer has.
     pub guid: Guid,
-    /// What it offers. Of this its OWNERSHIP_STRENGTH counts here, and its lease, if it asserts itself by topic; whether
-    /// that is all the reader asks for is for whoever tells of the writer.
+    /// What it offers. Of this OWNERSHIP_STRENGTH counts here, and its lease, if it asserts itself by topic, where the
+    /// reader does not know it; whether that is all the reader asks for is for whoever tells of the writer.
     pub offered: Policies,
 }

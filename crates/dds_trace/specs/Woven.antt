@@ -128,7 +128,7 @@ module _ {F L : Type 0} (meaning : F → Key → List ℕ → Bool) (notices : L
     pub are_woven : AreWoven ts (none_placed ts) order es
     pub run : IsRun (λ peer. tests_of meaning (cores peer).filtered.filters) start es
 
-  -- so is each honest order of their entries, where they are of different peers, which meet nobody but each other's ends
+  -- so is each honest order of their entries, where they are of different peers, which meet whom the configuration has
   abbrev pub HonestOrdersRun : Type 0
   HonestOrdersRun = (order : List ℕ) → AreApart ts → AreHistoriesOf → MeetByConfig config ts → IsHonest ts order
       → IsRunOf order

@@ -126,9 +126,9 @@ fn place_all(alloc: Global, traces: &[Trace]) -> Result<Placed, Code>
 /// Orders the entries of several traces so that each packet that is delivered was sent by an earlier one. Each trace
 /// keeps its own order.
 ///
-/// Where the traces are what different peers of one configuration did, this order of it all is one run: they could have
-/// done it one after the other. Packets are told by their octets. The time grows with the entries, with the octets of
-/// their packets, and with the number of traces.
+/// Where the traces are what different peers of one configuration did, which met nobody that it has not, this order of
+/// it all is one run: they could have done it one after the other. Packets are told by their octets. The time grows with
+/// the entries, with the octets of their packets, and with the number of traces.
 ///
 /// # Errors
 ///
