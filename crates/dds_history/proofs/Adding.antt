@@ -201,30 +201,28 @@ no_fewer_turns depth c after key k h = step (same_key key k) refl
     step false is = let e = ap (λ (n : KeyCount). n.turns) (other_more depth c after key k h is) in omega (arith, e)
 
 aged_as : (depth : ℕ) (c after : Counted) (key : Key) (e : Entry) → CountedMore depth c after key
-    → e.turn ≤ (count_in c e.change.key).turns
     → held_as (KeepLast depth) after e ≡ aged key (held_as (KeepLast depth) c e)
-aged_as depth c after key e h counted =
+aged_as depth c after key e h =
     ap (λ (r : ℕ). let x : HeldChange = record { number = e.number; change = e.change; remaining = r } in x)
     (step (same_key key e.change.key) refl)
   where
     step : (b : Bool) → same_key key e.change.key ≡ b
-        → depth - ((count_in after e.change.key).turns - e.turn)
-        ≡ (if b then depth - ((count_in c e.change.key).turns - e.turn) - 1
-        else depth - ((count_in c e.change.key).turns - e.turn))
+        → e.turn + depth - (count_in after e.change.key).turns
+        ≡ (if b then e.turn + depth - (count_in c e.change.key).turns - 1
+        else e.turn + depth - (count_in c e.change.key).turns)
     step true is =
         let more = ap (λ (n : KeyCount). n.turns) (own_more depth c after key e.change.key h is) in
-        omega (arith, more, counted)
+        omega (arith, more)
     step false is =
         let same = ap (λ (n : KeyCount). n.turns) (other_more depth c after key e.change.key h is) in
         omega (arith, same)
 
 aged_all : (depth : ℕ) (c after : Counted) (key : Key) (es : List Entry) → CountedMore depth c after key
-    → AreCounted c es
     → map (held_as (KeepLast depth) after) es ≡ map (aged key) (map (held_as (KeepLast depth) c) es)
-aged_all depth c after key [] h counted = refl
-aged_all depth c after key (e ∷ es) h counted =
-    let first = aged_as depth c after key e h counted.1 in
-    let rest = aged_all depth c after key es h counted.3 in
+aged_all depth c after key [] h = refl
+aged_all depth c after key (e ∷ es) h =
+    let first = aged_as depth c after key e h in
+    let rest = aged_all depth c after key es h in
     λ i. first i ∷ rest i
 
 aged_lasts : (key : Key) (h : HeldChange) → lasts h ≡ false → lasts (aged key h) ≡ false
@@ -238,7 +236,7 @@ last_shown : (depth : ℕ) (after : Counted) (e : Entry) → e.turn ≡ (count_i
     → held_by (KeepLast depth) after (e ∷ [])
     ≡ (if nat_lt 0 depth && true then record { number = e.number; change = e.change; remaining = depth } ∷ [] else [])
 last_shown depth after e newest some =
-    let full : depth - ((count_in after e.change.key).turns - e.turn) ≡ depth = omega (arith, newest) in
+    let full : e.turn + depth - (count_in after e.change.key).turns ≡ depth = omega (arith, newest) in
     let here : nat_lt 0 depth ≡ true = grind (arith, nat_tests) in
     ap (λ (r : ℕ). let x : HeldChange = record { number = e.number; change = e.change; remaining = r } in
     cond (nat_lt 0 r) (x ∷ []) []) full
@@ -248,16 +246,16 @@ last_shown depth after e newest some =
     cond (b && true) (x ∷ []) []) (sym here))
 
 shown_more : (depth : ℕ) (c after : Counted) (es : List Entry) (e : Entry) → CountedMore depth c after e.change.key
-    → AreCounted c es → e.turn ≡ (count_in after e.change.key).turns → 0 < depth
+    → e.turn ≡ (count_in after e.change.key).turns → 0 < depth
     → held_by (KeepLast depth) after (es ++ e ∷ [])
     ≡ with_change (KeepLast depth) (held_by (KeepLast depth) c es) e.number e.change true
-shown_more depth c after es e h counted newest some =
+shown_more depth c after es e h newest some =
     let key : Key = e.change.key in
     let as_now : Entry → HeldChange = held_as (KeepLast depth) after in
     let as_was : Entry → HeldChange = held_as (KeepLast depth) c in
     ap (λ (hs : List HeldChange). filter lasts hs) (map-append as_now es (e ∷ []))
     ∙ (filter-append lasts (map as_now es) (as_now e ∷ [])
-    ∙ (ap (λ (hs : List HeldChange). filter lasts hs ++ filter lasts (as_now e ∷ [])) (aged_all depth c after key es h counted)
+    ∙ (ap (λ (hs : List HeldChange). filter lasts hs ++ filter lasts (as_now e ∷ [])) (aged_all depth c after key es h)
     ∙ (ap (λ (hs : List HeldChange). hs ++ filter lasts (as_now e ∷ []))
     (sym (filter-changed lasts lasts (aged key) (aged_lasts key) (λ x is. refl) (map as_was es)))
     ∙ ap (λ (hs : List HeldChange). filter lasts (map (aged key) (filter lasts (map as_was es))) ++ hs)
@@ -321,7 +319,7 @@ added_last depth last live after_live c after es e is turn counted lives_on some
     let own = own_more depth c after key key counted (same_key-refl key) in
     let newest : e.turn ≡ (count_in after key).turns = turn ∙ sym (ap (λ (n : KeyCount). n.turns) own) in
     let here : nat_lt 0 depth ≡ true = grind (arith, nat_tests) in
-    let shown = shown_more depth c after es e counted h.fits.counted newest some in
+    let shown = shown_more depth c after es e counted newest some in
     let now : held_by (KeepLast depth) after (es ++ e ∷ []) ≡ left ++ new ∷ [] =
     shown ∙ ap (λ (b : Bool). left ++ cond (b && true) (new ∷ []) []) here in
     let kept = h.fits.kept key in
@@ -480,22 +478,22 @@ not_taken p hs number change awaited out none =
     nothing (KeepLast depth) = refl
 
 pub added_by : (p : HistoryQos) (last live : ℕ) (c : Counted) (es more : List Entry) (s : KeptState)
-    (turn place number : ℕ) (change : Change) → last + 1 ≡ number → 0 < granted p → AreRuns p (held_by p c es)
+    (turn number : ℕ) (change : Change) → last + 1 ≡ number → 0 < granted p → AreRuns p (held_by p c es)
     → Holds last (record { policy = p; entries = es; counted = c; live = live })
     → IsCountedBy p change.key (record { policy = p; entries = es; counted = c; live = live }) s turn
-    → more ≡ es ++ record { number = number; change = change; turn = turn; place = place } ∷ []
+    → more ≡ es ++ record { number = number; change = change; turn = turn } ∷ []
     → Holds number (record { policy = p; entries = more; counted = s.counted; live = s.live })
     × (held_by p s.counted more ≡ with_change p (held_by p c es) number change true)
-added_by p last live c es more s turn place number change next some runs h counted is =
+added_by p last live c es more s turn number change next some runs h counted is =
     subst (λ (xs : List Entry). Holds number (record { policy = p; entries = xs; counted = s.counted; live = s.live })
     × (held_by p s.counted xs ≡ with_change p (held_by p c es) number change true)) (sym is)
     (subst (λ (n : ℕ). Holds n (record {
       policy = p;
-      entries = es ++ record { number = number; change = change; turn = turn; place = place } ∷ [];
+      entries = es ++ record { number = number; change = change; turn = turn } ∷ [];
       counted = s.counted;
       live = s.live;
     })
-    × (held_by p s.counted (es ++ record { number = number; change = change; turn = turn; place = place } ∷ [])
+    × (held_by p s.counted (es ++ record { number = number; change = change; turn = turn } ∷ [])
     ≡ with_change p (held_by p c es) number change true)) next
     (by p some runs h counted))
   where
@@ -504,14 +502,14 @@ added_by p last live c es more s turn place number change next some runs h count
         → IsCountedBy q change.key (record { policy = q; entries = es; counted = c; live = live }) s turn
         → Holds (last + 1) (record {
           policy = q;
-          entries = es ++ record { number = number; change = change; turn = turn; place = place } ∷ [];
+          entries = es ++ record { number = number; change = change; turn = turn } ∷ [];
           counted = s.counted;
           live = s.live;
         })
-        × (held_by q s.counted (es ++ record { number = number; change = change; turn = turn; place = place } ∷ [])
+        × (held_by q s.counted (es ++ record { number = number; change = change; turn = turn } ∷ [])
         ≡ with_change q (held_by q c es) number change true)
     by KeepAll some runs h counted =
-        added_all last live s.live c s.counted es (record { number = number; change = change; turn = turn; place = place }) (sym next) h
+        added_all last live s.live c s.counted es (record { number = number; change = change; turn = turn }) (sym next) h
     by (KeepLast depth) some runs h counted =
-        added_last depth last live s.live c s.counted es (record { number = number; change = change; turn = turn; place = place })
+        added_last depth last live s.live c s.counted es (record { number = number; change = change; turn = turn })
         (sym next) counted.newest counted.counts counted.live some runs h

@@ -119,8 +119,8 @@ same_shown depth c after [] h = refl
 same_shown depth c after (e ∷ es) h =
     let rest = same_shown depth c after es h.1 in
     let hs : List HeldChange = held_by (KeepLast depth) after es in
-    ap (λ (t : ℕ). cond (nat_lt 0 (depth - (t - e.turn)))
-    (record { number = e.number; change = e.change; remaining = depth - (t - e.turn) } ∷ hs) hs) h.0
+    ap (λ (t : ℕ). cond (nat_lt 0 (e.turn + depth - t))
+    (record { number = e.number; change = e.change; remaining = e.turn + depth - t } ∷ hs) hs) h.0
     ∙ ap (λ (xs : List HeldChange). cond (nat_lt 0 (remaining_by (KeepLast depth) c e))
     (held_as (KeepLast depth) c e ∷ xs) xs) rest
 
@@ -397,6 +397,12 @@ counted_gone depth last live left_over c after e es counted dropped h =
         (subst (λ (m : Counted). IsAfterFirst last (record { policy = KeepLast depth; entries = e ∷ es; counted = c; live = live })
         (record { policy = KeepLast depth; entries = es; counted = m; live = live })) (sym same.0)
         (quiet_gone (KeepLast depth) last live c e es is h))
+
+-- an entry that goes, and not by its number, is counted no longer
+pub quiet_first : (n : ℕ) (p : HistoryQos) (c : Counted) (e : Entry) → n ≤ e.number
+    → (nat_lt e.number n || not (nat_lt 0 (remaining_by p c e))) ≡ true → is_counted_by p c e ≡ false
+quiet_first n KeepAll c e from goes = refl
+quiet_first n (KeepLast depth) c e from goes = grind (arith, nat_tests)
 
 -- ---- what goes from the front
 

@@ -49,7 +49,7 @@ parts s = (s.entries, s.counted, s.live)
 
 -- so many more changes of its key drop the change, by what is counted of the key
 abbrev pub left : ℕ → KeyCount → Entry → ℕ
-left depth count e = depth - (count.turns - e.turn)
+left depth count e = e.turn + depth - count.turns
 
 -- how many more changes of its key an entry outlives; under KEEP_ALL it is never dropped
 abbrev pub remaining_by : HistoryQos → Counted → Entry → ℕ

@@ -19,8 +19,9 @@ ghost use Rattle.dds_base.specs.declared.qos.HistoryQos.TheVariants.{KeepLast};
 ghost use Rattle.dds_base.specs.Happening.{same_key};
 ghost use Rattle.dds_history.specs.declared.held.Entry.{Entry};
 ghost use Rattle.dds_history.specs.Held.{IsNext, awaits, granted, kept_after, older_after};
-ghost use Rattle.dds_history.specs.Entries.{Gains, HasRuns, Holds, HoldsBefore, IsAfterFirst, Rises, count_in, goes_first, held_as, left, one_fewer, remaining_by, shown, state, is_any_counted, is_counted_by, IsCounted, IsCountedAt, IsCountedBy, IsFew, IsFewBy, IsUncounted};
+ghost use Rattle.dds_history.specs.Entries.{Gains, HasRuns, Holds, HoldsBefore, IsAfterFirst, Rises, count_in, goes_first, held_as, one_fewer, remaining_by, shown, state, is_any_counted, is_counted_by, IsCounted, IsCountedAt, IsCountedBy, IsFew, IsFewBy, IsUncounted};
 
+use crate::turn::Turn;
 use dds_base::{Change, Code, HistoryQos, Key};
 use indexmap::IndexMap;
 use std::alloc::{AllocFailed, Global};
@@ -35,10 +36,9 @@ const IDLE_KEYS: u64 = 1024;
 pub struct Entry {
     pub number: u64,
     pub change: Change,
-    /// So many changes of its key were made with it, since some of them are kept; nothing counts under KEEP_ALL.
-    pub turn: u64,
-    /// The place at which its key was counted when it came: it most likely stands there still.
-    pub place: usize,
+    /// So many changes of its key were made with it, since some of them are kept; nothing counts under KEEP_ALL. The key was
+    /// counted at its place when the change came, and most likely stands there still.
+    pub turn: Turn,
 }
 
 /// What is counted of a key of which changes are kept.
@@ -100,8 +100,6 @@ fn count_of(keys: &IndexMap<Key, KeyCount>, likely: usize, key: Key) -> KeyCount
 }
 
 /// Where the key stands, and what is counted of it, if anything is, by its hash.
-// It is seldom asked, and needs more registers than a look at one place.
-#[inline(never)]
 fn find_count(keys: &IndexMap<Key, KeyCount>, key: Key) -> Option<(usize, KeyCount)>
     ensures { MatchOption result (count_in keys.now.entries key ≡ record { turns = 0; kept = 0 })
         (λ found. IsCountedAt keys.now.entries key found.0 found.1) }
@@ -146,11 +144,12 @@ fn enter(
     Ok((place, before.unwrap_or(KeyCount { turns: 0, kept: 0 })))
 }
 
-/// So many more changes of its key drop the change, by what is counted of the key.
-fn left(depth: u32, count: KeyCount, entry: &Entry) -> u64
-    ensures { result ≡ left depth count entry.now }
+/// A change of this turn is kept until so many of its key were made.
+fn kept_until(depth: u32, turn: &Turn) -> u64
+    ensures { result ≡ turn.now + depth }
 {
-    u64::from(depth).saturating_sub(count.turns.saturating_sub(entry.turn))
+    // The sum does not wrap: a turn takes 49 bits.
+    turn.number().wrapping_add(u64::from(depth))
 }
 
 /// So many more changes of its key drop the change: it is dropped where that is none.
@@ -160,8 +159,8 @@ fn remaining(policy: HistoryQos, keys: &IndexMap<Key, KeyCount>, entry: &Entry) 
     match policy {
         HistoryQos::KeepAll => 1,
         HistoryQos::KeepLast(depth) => {
-            let count = count_of(keys, entry.place, entry.change.key);
-            left(depth, count, entry)
+            let count = count_of(keys, entry.turn.place(), entry.change.key);
+            kept_until(depth, &entry.turn).saturating_sub(count.turns)
         }
     }
 }
@@ -315,21 +314,39 @@ impl Kept {
         first_kept(&self.entries, self.policy, &self.keys)
     }
 
-    /// Counts one change fewer of a key that stands at this place, of which this is counted, where an entry of it goes that was
-    /// not dropped. The key stands there on where none of it is kept, so that the other keys stay at their places too.
+    /// Counts one change fewer of a key that stands at this place, of which this is counted, where an entry of it goes that is
+    /// kept until so many were made. The key stands there on where none of it is kept, so that the other keys stay at their places
+    /// too.
     #[inline(always)]
-    fn uncount_at(&mut self, depth: u32, entry: &Entry, place: usize, count: KeyCount)
-        requires { IsCountedAt self.old.keys.entries entry.now.change.key place count }
+    fn uncount_at(&mut self, until: u64, key: Key, place: usize, count: KeyCount)
+        requires { IsCountedAt self.old.keys.entries key place count }
         ensures policy { self.new.policy ≡ self.old.policy }
         ensures entries { self.new.entries ≡ self.old.entries }
-        ensures counted { is_counted_by (KeepLast depth) self.old.keys.entries entry.now ≡ true
-            → IsUncounted entry.now.change.key (state self.old) (state self.new) }
-        ensures dropped { is_counted_by (KeepLast depth) self.old.keys.entries entry.now ≡ false
+        ensures counted { nat_lt 0 (until - (count_in self.old.keys.entries key).turns) ≡ true
+            → IsUncounted key (state self.old) (state self.new) }
+        ensures dropped { nat_lt 0 (until - (count_in self.old.keys.entries key).turns) ≡ false
             → state self.new ≡ state self.old }
     {
-        if 0 < left(depth, count, entry) {
+        if 0 < until.saturating_sub(count.turns) {
             self.live = self.live.saturating_sub(1);
             recount(&mut self.keys, place, one_fewer(count));
+        }
+    }
+
+    /// The same of a key that stands anywhere, by its hash.
+    // It is seldom asked, and needs more registers than a look at one place.
+    #[inline(never)]
+    fn uncount_found(&mut self, until: u64, key: Key)
+        ensures policy { self.new.policy ≡ self.old.policy }
+        ensures entries { self.new.entries ≡ self.old.entries }
+        ensures counted { nat_lt 0 (until - (count_in self.old.keys.entries key).turns) ≡ true
+            → 0 < (count_in self.old.keys.entries key).turns
+            → IsUncounted key (state self.old) (state self.new) }
+        ensures dropped { nat_lt 0 (until - (count_in self.old.keys.entries key).turns) ≡ false
+            → state self.new ≡ state self.old }
+    {
+        if let Some((place, count)) = find_count(&self.keys, key) {
+            self.uncount_at(until, key, place, count);
         }
     }
 
@@ -343,24 +360,27 @@ impl Kept {
         ensures dropped { is_counted_by (KeepLast depth) self.old.keys.entries entry.now ≡ false
             → state self.new ≡ state self.old }
     {
-        let key = entry.change.key;
-        if let Some(count) = count_at(&self.keys, entry.place, key) {
-            self.uncount_at(depth, entry, entry.place, count);
-        } else if let Some((place, count)) = find_count(&self.keys, key) {
-            self.uncount_at(depth, entry, place, count);
+        let (key, likely) = (entry.change.key, entry.turn.place());
+        let until = kept_until(depth, &entry.turn);
+        if let Some(count) = count_at(&self.keys, likely, key) {
+            self.uncount_at(until, key, likely, count);
+        } else {
+            self.uncount_found(until, key);
         }
     }
 
-    /// Lets go of the first entry.
-    fn drop_first(&mut self)
+    /// Lets go of the first entry, which goes by this number: one that was dropped is counted no longer.
+    fn drop_first(&mut self, number: u64)
         ensures policy { self.new.policy ≡ self.old.policy }
-        ensures after { (last : ℕ) → Holds last (state self.old)
+        ensures after { (last : ℕ) → Holds last (state self.old) → goes_first number (state self.old) ≡ true
             → IsAfterFirst last (state self.old) (state self.new) }
         ensures len { deque_len self.new.entries ≡ deque_len self.old.entries - 1 }
     {
         if let Some(entry) = self.entries.pop_front() {
             if let HistoryQos::KeepLast(depth) = self.policy {
-                self.uncount(depth, &entry);
+                if entry.number < number {
+                    self.uncount(depth, &entry);
+                }
             }
         }
     }
@@ -385,11 +405,11 @@ impl Kept {
             × (shown (state self.new) ≡ filter (λ h. nat_le number h.number) (shown (state self.old))) }
     {
         while self.goes_first(number) {
-            self.drop_first();
+            self.drop_first(number);
         }
     }
 
-    /// Counts one more change of the key, and gives its turn.
+    /// Counts one more change of the key, and gives the number of its turn.
     fn count(&mut self, depth: u32, key: Key) -> Result<u64, Code>
         ensures counts { (last : ℕ) → last < 2 ^ 48 → IsFew last (state self.old)
             → IfOk result (IsCounted depth key (state self.old) (state self.new)) }
@@ -416,7 +436,7 @@ impl Kept {
     }
 
     /// The turn of one more change of the key, which is counted.
-    fn turn(&mut self, key: Key) -> Result<u64, Code>
+    fn turn(&mut self, key: Key) -> Result<Turn, Code>
         ensures counts { (last : ℕ) → last < 2 ^ 48 → IsFewBy self.old.policy last (state self.old)
             → IfOk result (IsCountedBy self.old.policy key (state self.old) (state self.new)) }
         ensures memory { IfErr result (λ code. code ≡ Memory) }
@@ -425,8 +445,11 @@ impl Kept {
         ensures policy { self.new.policy ≡ self.old.policy }
     {
         match self.policy {
-            HistoryQos::KeepAll => Ok(0),
-            HistoryQos::KeepLast(depth) => self.count(depth, key),
+            HistoryQos::KeepAll => Ok(Turn::new(0, 0)),
+            HistoryQos::KeepLast(depth) => {
+                let number = self.count(depth, key)?;
+                Ok(Turn::new(number, self.latest))
+            }
         }
     }
 
@@ -446,7 +469,6 @@ impl Kept {
             number,
             change,
             turn,
-            place: self.latest,
         });
         Ok(())
     }

@@ -6,5 +6,6 @@
 
 mod held;
 mod history;
+mod turn;
 
 pub use history::History;

@@ -20,7 +20,6 @@ returns-clause-ok c = λ last before runs some.
       number = c.args.number;
       change = c.args.change;
       turn = c.in_ok-turn.turn;
-      place = c.turn.new.self.latest;
     } in
     let more : c.push_back_reserved.new.self.items ≡ was.entries.items ++ new ∷ [] =
     c.push_back_reserved.ensures.items
@@ -35,5 +34,5 @@ returns-clause-ok c = λ last before runs some.
     ≡ with_change was.policy (held_by was.policy was.keys.entries was.entries.items) c.args.number c.args.change true))
     (sym c.turn.ensures.policy)
     (added_by was.policy last was.live was.keys.entries was.entries.items c.push_back_reserved.new.self.items
-    (state c.turn.new.self) c.in_ok-turn.turn c.turn.new.self.latest c.args.number c.args.change before.next some runs before.holds counted
+    (state c.turn.new.self) c.in_ok-turn.turn c.args.number c.args.change before.next some runs before.holds counted
     more)

@@ -1,12 +1,12 @@
-use Rattle.std.proofs.Common.{List, ◌∷◌, ap, sym, subst}
+use Rattle.std.proofs.Common.{◌≡◌, true, List, ◌∷◌, ap, sym, subst}
 use Rattle.dds_base.specs.declared.qos.HistoryQos.{HistoryQos}
 use Rattle.dds_history.specs.declared.held.Entry.{Entry}
-use Rattle.dds_history.specs.Entries.{Holds, IsAfterFirst, KeptState, is_counted_by}
-use Rattle.dds_history.proofs.Counting.{counted_gone, quiet_gone}
+use Rattle.dds_history.specs.Entries.{Holds, IsAfterFirst, KeptState, goes_first, is_counted_by}
+use Rattle.dds_history.proofs.Counting.{counted_gone, quiet_first, quiet_gone}
 use Rattle.dds_history.proofs.held.Kept.drop_first.Goals as goal
 
-pub returns-in-KeepLast-clause-after : goal.returns-in-KeepLast-clause-after
-returns-in-KeepLast-clause-after c = λ last.
+pub returns-then-entry-number-clause-after : goal.returns-then-entry-number-clause-after
+returns-then-entry-number-clause-after c = λ last holds goes.
     let was = c.args.self.now in
     let now = c.uncount.new.self in
     let e : Entry = c.in-Some.entry in
@@ -39,10 +39,23 @@ returns-in-KeepLast-clause-after c = λ last.
     Holds last (record { policy = was.policy; entries = es; counted = was.keys.entries; live = was.live })
     → IsAfterFirst last (record { policy = was.policy; entries = es; counted = was.keys.entries; live = was.live })
     (record { policy = now.policy; entries = now.entries.items; counted = now.keys.entries; live = now.live }))
-    (sym c.in-Some.ensures.items) of_rest
+    (sym c.in-Some.ensures.items) of_rest holds
+
+pub returns-in-KeepLast-clause-after : goal.returns-in-KeepLast-clause-after
+returns-in-KeepLast-clause-after c = λ last holds goes.
+    let was = c.args.self.now in
+    subst (λ (es : List Entry).
+    Holds last (record { policy = was.policy; entries = es; counted = was.keys.entries; live = was.live })
+    → goes_first c.args.number (record { policy = was.policy; entries = es; counted = was.keys.entries; live = was.live }) ≡ true
+    → IsAfterFirst last (record { policy = was.policy; entries = es; counted = was.keys.entries; live = was.live })
+    (record { policy = was.policy; entries = c.pop_front.new.self.items; counted = was.keys.entries; live = was.live }))
+    (sym c.in-Some.ensures.items)
+    (λ sound first. quiet_gone was.policy last was.live was.keys.entries c.in-Some.entry c.pop_front.new.self.items
+    (quiet_first c.args.number was.policy was.keys.entries c.in-Some.entry c.if-entry-number.false first) sound)
+    holds goes
 
 pub returns-in-Some-clause-after : goal.returns-in-Some-clause-after
-returns-in-Some-clause-after c = λ last.
+returns-in-Some-clause-after c = λ last holds goes.
     let was = c.args.self.now in
     subst (λ (es : List Entry).
     Holds last (record { policy = was.policy; entries = es; counted = was.keys.entries; live = was.live })
@@ -50,4 +63,4 @@ returns-in-Some-clause-after c = λ last.
     (record { policy = was.policy; entries = c.pop_front.new.self.items; counted = was.keys.entries; live = was.live }))
     (sym c.in-Some.ensures.items)
     (quiet_gone was.policy last was.live was.keys.entries c.in-Some.entry c.pop_front.new.self.items
-    (ap (λ (p : HistoryQos). is_counted_by p was.keys.entries c.in-Some.entry) c.in_default-policy.is))
+    (ap (λ (p : HistoryQos). is_counted_by p was.keys.entries c.in-Some.entry) c.in_default-policy.is)) holds

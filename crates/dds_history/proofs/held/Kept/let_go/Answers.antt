@@ -11,7 +11,7 @@ loop-self-preserved c =
       c.drop_first.ensures.policy ∙ so_far.0,
       λ last h.
           let held = so_far.1 last h in
-          let gone = c.drop_first.ensures.after last held.0 in (
+          let gone = c.drop_first.ensures.after last held.0 (sym c.goes_first.ensures ∙ c.loop-self-test.true) in (
             gone.holds,
             ap (λ (hs : List HeldChange). filter (λ x. nat_le c.args.number x.number) hs) gone.shown
                 ∙ (front_goes c.args.number now.policy now.keys.entries now.entries.items
