@@ -1,6 +1,7 @@
--- The kinds of builtin entities, which a peer reads as those of user entities (RTPS 2.5, 9.3.1: entity kinds; 9.4.5: AckNack,
+-- The kinds of entities, which stand otherwise on the network than a peer reads them (RTPS 2.5, 9.3.1: entity kinds; 9.4.5: AckNack,
 -- Data, Gap, Heartbeat).
-use Rattle.std.specs.Prelude.{◌≡◌, ◌⊎◌, ℕ, ◌+◌, ◌==◌, ◌||◌, List, ◌++◌, length, flat_map, nat_le, slice_index, slice_set, Option, Some, None, if◌then◌else◌}
+use Rattle.std.specs.Prelude.{◌≡◌, ◌⊎◌, ℕ, ◌+◌, ◌==◌, ◌||◌, List, ◌++◌, drop, take, length, flat_map, nat_le, slice_index, slice_set, Option, Some, None, if◌then◌else◌}
+use Rattle.dds_base.specs.declared.guid.EntityId.{EntityId}
 use Rattle.dds_base.specs.declared.guid.GuidPrefix.{GuidPrefix}
 use Rattle.rtps_wire.specs.Names.{id_acknack, id_data, id_gap, id_heartbeat}
 use Rattle.rtps_adapter.specs.Adapting.{IsMessage, IsNone}
@@ -22,28 +23,42 @@ ids_at id =
     else if id == id_data then Some 8
     else None
 
--- octets whose kind of an entity at a place is turned
-abbrev pub turned_at : ℕ → List ℕ → List ℕ
-turned_at place text = slice_set text place (turned_kind (slice_index text place))
+-- which kind a reader or a writer has, by the id of the submessage that names it and by what it is called there
+abbrev pub Kinds : Type 0
+Kinds = ℕ → EntityId → ℕ
 
--- octets with two entity ids at a place, whose kinds are turned: the last octet of each
-abbrev pub turned_ids : Option ℕ → List ℕ → List ℕ
-turned_ids None text = text
-turned_ids (Some at) text =
-    if nat_le (at + 8) (length text) then turned_at (at + 7) (turned_at (at + 3) text) else text
+-- a builtin one for a user's, and the other way round
+abbrev pub kind_turned : Kinds
+kind_turned id entity = turned_kind (slice_index entity.0 3)
 
--- the octets of a submessage, with the kinds of its reader and its writer turned
-abbrev pub turned_text : Piece → List ℕ
-turned_text p = turned_ids (ids_at p.id) p.text
+-- the entity id at a place
+abbrev pub entity_at : ℕ → List ℕ → EntityId
+entity_at place text = record { 0 = take 4 (drop place text) }
 
--- The header stays, the kinds of each submessage's reader and writer are turned, and what is not read stays.
-pub record TurnsKinds (bytes out : List ℕ) : Type 0 where
+-- octets with two entity ids at a place, each of which has its kind: its last octet
+abbrev pub with_kinds_at : Kinds → Kinds → ℕ → Option ℕ → List ℕ → List ℕ
+with_kinds_at reader writer id None text = text
+with_kinds_at reader writer id (Some at) text =
+    if nat_le (at + 8) (length text)
+    then slice_set (slice_set text (at + 3) (reader id (entity_at at text))) (at + 7) (writer id (entity_at (at + 4) text))
+    else text
+
+-- the octets of a submessage whose reader and writer have their kinds
+abbrev pub turned_text : Kinds → Kinds → Piece → List ℕ
+turned_text reader writer p = with_kinds_at reader writer p.id (ids_at p.id) p.text
+
+-- The header stays, each submessage's reader and writer have their kinds, and what is not read stays.
+pub record TurnsKinds (reader writer : Kinds) (bytes out : List ℕ) : Type 0 where
   pub source : GuidPrefix
   pub pieces : List Piece
   pub left : List ℕ
   pub message : IsMessage bytes source pieces left
-  pub text : out ≡ message.header ++ (flat_map turned_text pieces ++ left)
+  pub text : out ≡ message.header ++ (flat_map (turned_text reader writer) pieces ++ left)
 
 -- What is no message stays as it is.
+abbrev pub WithTheirKinds : Kinds → Kinds → List ℕ → List ℕ → Type 0
+WithTheirKinds reader writer bytes out = TurnsKinds reader writer bytes out ⊎ (IsNone bytes × (out ≡ bytes))
+
+-- Builtin ones stand for those of users, and the other way round.
 abbrev pub WithKinds : List ℕ → List ℕ → Type 0
-WithKinds bytes out = TurnsKinds bytes out ⊎ (IsNone bytes × (out ≡ bytes))
+WithKinds = WithTheirKinds kind_turned kind_turned

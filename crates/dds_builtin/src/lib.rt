@@ -17,7 +17,7 @@ mod sides;
 
 pub use announced::{announcement, guid_of, key_of, message_key};
 pub use builtin::{MAX_ANNOUNCEMENT, Topic, lists_of, network_of, number_of};
-pub use kinds::with_kinds;
+pub use kinds::{EntityKinds, with_kinds, with_kinds_of};
 pub use reaching::reach;
 pub use said::hear;
 pub use sides::{turned_in, turned_out};
