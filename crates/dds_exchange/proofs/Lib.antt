@@ -1,0 +1,2 @@
+mod Meeting
+mod Rows
