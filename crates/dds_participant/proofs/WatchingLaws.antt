@@ -115,11 +115,12 @@ pub ticks : (moment : ℕ) (w : Watcher) (a : Answer) (v : Watcher) (b : Answer)
     → told ≡ told_at w.discovery.participants (max w.discovery.participants.time moment)
     → packets ≡ sent_at w.discovery.participants (max w.discovery.participants.time moment)
     → PresentsAll told d.participants.rows a.lines.items given.lines.items
-    → given.packets.items ≡ a.packets.items ++ packets → Settles (with_discovery d w) given v b → Ticks moment w a v b
-ticks moment w a v b d told packets given is_ticked is_told is_sent presents sent settles =
+    → given.packets.items ≡ a.packets.items ++ packets → given.told.items ≡ a.told.items
+    → Settles (with_discovery d w) given v b → Ticks moment w a v b
+ticks moment w a v b d told packets given is_ticked is_told is_sent presents sent same settles =
     let now : ℕ = max w.discovery.participants.time moment in
     subst (λ (s : State). Goes (told_at w.discovery.participants now) (sent_at w.discovery.participants now)
     (with_discovery s w) a v b) is_ticked
     (subst (λ (t : List Presence). Goes t (sent_at w.discovery.participants now) (with_discovery d w) a v b) is_told
     (subst (λ (p : List Packet). Goes told p (with_discovery d w) a v b) is_sent
-    (record { given = given; presents = presents; sent = sent; settles = settles })))
+    (record { given = given; presents = presents; sent = sent; kept = same; settles = settles })))

@@ -26,6 +26,7 @@ use Rattle.dds_participant.specs.Sight.{are_seen, has_new, misfits_of, new_misfi
 pub record IsNothing (a : Answer) : Type 0 where
   pub lines : a.lines.items ≡ []
   pub packets : a.packets.items ≡ []
+  pub told : a.told.items ≡ []
 
 -- What was printed stays in front; nothing follows it where there is nothing to list. How a participant or an endpoint is listed
 -- no definition says.
@@ -69,10 +70,11 @@ Tells told w old v new = (between : List ℕ) × Looks w old v between × (new �
 
 -- ---- steps
 
--- What discovery told is printed, and what it gave is sent.
+-- What discovery told is printed and kept, and what it gave is sent.
 pub record Gives (told : List Told) (packet : Option Packet) (w : Watcher) (a : Answer) (v : Watcher) (b : Answer) : Type 0 where
   pub tells : Tells told w a.lines.items v b.lines.items
   pub sent : b.packets.items ≡ a.packets.items ++ option_to_list packet
+  pub kept : b.told.items ≡ a.told.items ++ told
 
 -- discovery has come so far
 abbrev pub with_discovery : State → Watcher → Watcher
@@ -100,6 +102,7 @@ pub record Settles (w : Watcher) (a : Answer) (v : Watcher) (b : Answer) : Type 
   pub ends : (due between.discovery ≡ None) ⊎ (count ≡ 2 ^ 64 - 1)
   pub looks : Looks between given.lines.items v b.lines.items
   pub sent : b.packets.items ≡ given.packets.items
+  pub told : b.told.items ≡ given.told.items
 
 -- ---- events
 
@@ -109,6 +112,7 @@ pub record Adds (e : End) (w : Watcher) (a : Answer) (v : Watcher) (b : Answer) 
   pub lists : Lists true a.lines.items listed
   pub tells : Tells (told_of_own e w.discovery.endpoints) (with_discovery (added e w.discovery) w) listed v b.lines.items
   pub sent : b.packets.items ≡ a.packets.items
+  pub told : b.told.items ≡ a.told.items ++ told_of_own e w.discovery.endpoints
 
 -- Who is there or no more is printed, these are sent, and what is left to do is done.
 pub record Goes (told : List Presence) (packets : List Packet) (w : Watcher) (a : Answer) (v : Watcher) (b : Answer) : Type 0
@@ -116,6 +120,7 @@ pub record Goes (told : List Presence) (packets : List Packet) (w : Watcher) (a 
     pub given : Answer
     pub presents : PresentsAll told w.discovery.participants.rows a.lines.items given.lines.items
     pub sent : given.packets.items ≡ a.packets.items ++ packets
+    pub kept : given.told.items ≡ a.told.items
     pub settles : Settles w given v b
 
 -- A datagram comes from an address at a moment.

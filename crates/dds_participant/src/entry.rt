@@ -6,13 +6,14 @@ ghost use Rattle.dds_participant.specs.Words.{all_locators, locators_of, machine
 use crate::failure::Failure;
 use crate::moments::Moments;
 use crate::port::{Port, group_port, own_address, unicast_port};
+use crate::sharing::Sharing;
 use crate::turns::{Live, give};
 use crate::watcher::{Answer, Watcher};
-use crate::words::{Request, Target, read_words};
+use crate::words::{Purpose, Request, Target, read_words};
 use dds_base::{Code, GuidPrefix};
 use dds_discovery::BUILTIN_ENDPOINTS;
-use discovery_script::{USUAL_LEASE, USUAL_LIMITS, one_locator, print_open};
-use rtps_announcements::{Locator, Participant, VendorId};
+use discovery_script::{USUAL_LIMITS, one_locator, print_open};
+use rtps_announcements::{Duration, Locator, Participant, VendorId};
 use rtps_discovery::Settings;
 use rtps_matching::End;
 use std::alloc::{AllocError, Global};
@@ -25,6 +26,12 @@ use std::time::Clock;
 ///
 /// RTPS 2.5, 9.6.2 (the default multicast address).
 const GROUP: [u8; 4] = [239, 255, 0, 1];
+
+/// How long we are taken to be there: eight seconds. We announce ourselves four times in it, so who comes later finds us soon.
+const LEASE: Duration = Duration {
+    seconds: 8,
+    fraction: 0,
+};
 
 /// How many participants of a machine are told of us.
 const TOLD_INDICES: u32 = 10;
@@ -124,7 +131,7 @@ fn participant_at(prefix: GuidPrefix, locator: Locator) -> Participant
       prefix = prefix;
       vendor = VendorId.UNKNOWN;
       builtin_endpoints = BUILTIN_ENDPOINTS;
-      lease = USUAL_LEASE;
+      lease = LEASE;
       metatraffic = locator ∷ [];
       default = locator ∷ [];
     } }
@@ -133,7 +140,7 @@ fn participant_at(prefix: GuidPrefix, locator: Locator) -> Participant
         prefix,
         vendor: VendorId::UNKNOWN,
         builtin_endpoints: BUILTIN_ENDPOINTS,
-        lease: USUAL_LEASE,
+        lease: LEASE,
         metatraffic: one_locator(locator),
         default: one_locator(locator),
     }
@@ -164,17 +171,36 @@ fn open<R: Net + Clock>(
         addresses,
         limits: USUAL_LIMITS,
     };
-    begin(rt, alloc, settings, port)
+    let sharing = share(alloc, prefix, request)?;
+    begin(rt, alloc, settings, port, request.purpose, sharing)
+}
+
+/// Our peer, where samples are exchanged.
+fn share(alloc: Global, prefix: GuidPrefix, request: &Request) -> Result<Option<Sharing>, Failure> {
+    if let Purpose::Watch = request.purpose {
+        return Ok(None);
+    }
+    let sharing = Sharing::open(alloc, prefix, request.ends.as_slice(), &request.of)?;
+    Ok(Some(sharing))
 }
 
 /// Discovery begins, and time. No address can be announced that is a group, or nobody's.
-fn begin<R: Clock>(rt: &R, alloc: Global, settings: Settings, port: Port) -> Result<Live, Failure> {
+fn begin<R: Clock>(
+    rt: &R,
+    alloc: Global,
+    settings: Settings,
+    port: Port,
+    purpose: Purpose,
+    sharing: Option<Sharing>,
+) -> Result<Live, Failure> {
     let address = port.locator().address;
     match Watcher::open(alloc, settings) {
         Ok(watcher) => Ok(Live {
             watcher,
             port,
             moments: Moments::begin(rt)?,
+            purpose,
+            sharing,
         }),
         Err(Code::BadParameter) => Err(Failure::NotOurs(Ipv4Addr::from(address))),
         Err(_) => Err(Failure::Memory),

@@ -5,7 +5,7 @@ ghost use Rattle.dds_participant.specs.Failures.{exit_of};
 
 use dds_base::Code;
 use dds_script::Fault;
-use std::alloc::AllocError;
+use std::alloc::{AllocError, AllocFailed};
 use std::net::Ipv4Addr;
 use thiserror::Error;
 
@@ -43,6 +43,12 @@ pub enum Failure {
 
 impl From<AllocError> for Failure {
     fn from(_e: AllocError) -> Failure {
+        Failure::Memory
+    }
+}
+
+impl<T: Drop> From<AllocFailed<T>> for Failure {
+    fn from(_e: AllocFailed<T>) -> Failure {
         Failure::Memory
     }
 }

@@ -8,10 +8,14 @@
 //! Not here: samples. No endpoint of ours sends or takes any.
 #![tactic(auto)]
 
+mod asked;
+mod early;
 mod entry;
 mod failure;
+mod fragments;
 mod moments;
 mod port;
+mod sharing;
 mod turns;
 mod watcher;
 mod words;

@@ -3,10 +3,13 @@
 ghost use Rattle.std.specs.Prelude.{◌≡◌, [], IfErr, OnOk};
 ghost use Rattle.std.specs.Io.KnownBytes.{Appends};
 
+use crate::asked::Asked;
 use crate::failure::Failure;
 use crate::moments::Moments;
 use crate::port::Port;
+use crate::sharing::Sharing;
 use crate::watcher::{Answer, Watcher};
+use crate::words::Purpose;
 use std::alloc::Global;
 use std::io::{Read, Write};
 use std::time::{Clock, Duration};
@@ -20,6 +23,9 @@ pub struct Live {
     pub watcher: Watcher,
     pub port: Port,
     pub moments: Moments,
+    pub purpose: Purpose,
+    /// Where samples are exchanged.
+    pub sharing: Option<Sharing>,
 }
 
 /// Prints lines, and sends datagrams.
@@ -40,57 +46,130 @@ pub fn give<W: Write>(port: &Port, answer: &Answer, output: &mut W) -> Result<()
     Ok(())
 }
 
-/// Whether the standard input has ended.
-fn has_ended(input: &mut impl Read) -> bool {
-    let mut octets = [0u8; 64];
-    !matches!(input.read(&mut octets), Ok(1..))
-}
-
 impl Live {
+    /// What discovery told and a datagram that came are our peer's, where we exchange samples.
+    fn share(&mut self, answer: &mut Answer) -> Result<(), Failure> {
+        if let Some(sharing) = &mut self.sharing {
+            sharing.meet(
+                &answer.told,
+                self.watcher.far(),
+                self.watcher.rows(),
+                &mut answer.packets,
+            )?;
+            sharing.hear(self.port.octets(), self.watcher.rows(), answer)?;
+            if matches!(self.purpose, Purpose::Listen) {
+                sharing.take_all(self.watcher.rows(), answer)?;
+            }
+        }
+        Ok(())
+    }
+
     /// Hears what came.
-    fn hear_all(&mut self, moment: u64, answer: &mut Answer) -> Result<(), Failure> {
+    fn hear_all<W: Write>(
+        &mut self,
+        alloc: Global,
+        moment: u64,
+        output: &mut W,
+    ) -> Result<(), Failure> {
         for _ in 0..MOST_DATAGRAMS {
             if !self.port.take()? {
                 break;
             }
+            let mut answer = Answer::new(alloc);
             let (source, octets) = (self.port.source(), self.port.octets());
-            self.watcher.hear(moment, source, octets, answer)?;
+            self.watcher.hear(moment, source, octets, &mut answer)?;
+            self.share(&mut answer)?;
+            give(&self.port, &answer, output)?;
+        }
+        Ok(())
+    }
+
+    /// Time goes on, at discovery and then at our peer.
+    fn tick(&mut self, moment: u64, answer: &mut Answer) -> Result<(), Failure> {
+        self.watcher.tick(moment, answer)?;
+        if let Some(sharing) = &mut self.sharing {
+            sharing.meet(
+                &answer.told,
+                self.watcher.far(),
+                self.watcher.rows(),
+                &mut answer.packets,
+            )?;
+            sharing.tick(moment, self.watcher.rows(), &mut answer.packets)?;
         }
         Ok(())
     }
 
     /// One turn, so long after the beginning.
-    fn turn(
+    fn turn<W: Write>(
         &mut self,
         alloc: Global,
         elapsed: Duration,
-        output: &mut impl Write,
+        output: &mut W,
     ) -> Result<(), Failure> {
         let moment = self.moments.after(elapsed);
+        self.hear_all(alloc, moment, output)?;
         let mut answer = Answer::new(alloc);
-        self.hear_all(moment, &mut answer)?;
-        self.watcher.tick(moment, &mut answer)?;
+        self.tick(moment, &mut answer)?;
         give(&self.port, &answer, output)
     }
 
-    /// Turns for so many seconds, or until the input ends.
-    pub fn turn_for<R: Clock>(
+    /// Does what lines of the input ask for.
+    fn take_lines<W: Write>(
+        &mut self,
+        alloc: Global,
+        input: &mut Asked,
+        output: &mut W,
+    ) -> Result<(), Failure> {
+        let Some(sharing) = &mut self.sharing else {
+            return Ok(());
+        };
+        let mut answer = Answer::new(alloc);
+        for _ in 0..u64::MAX {
+            let Some(line) = input.next(alloc)? else {
+                break;
+            };
+            sharing.take_line(&line, self.watcher.rows(), &mut answer)?;
+        }
+        give(&self.port, &answer, output)
+    }
+
+    /// Whether the input is read: where it ends us, or says what is written, once somebody hears it.
+    fn is_asked(&self, is_endless: bool) -> bool {
+        match (&self.sharing, self.purpose) {
+            (Some(sharing), Purpose::Say) => sharing.has_matches(),
+            _ => is_endless,
+        }
+    }
+
+    /// Whether all that was said was heard.
+    fn is_done(&self) -> bool {
+        match &self.sharing {
+            Some(sharing) => !sharing.is_behind(),
+            None => true,
+        }
+    }
+
+    /// Turns for so many seconds, or until the input ends and all that was said was heard.
+    pub fn turn_for<R: Clock, I: Read, W: Write>(
         &mut self,
         rt: &R,
         alloc: Global,
         seconds: Option<u64>,
-        input: &mut impl Read,
-        output: &mut impl Write,
+        input: &mut I,
+        output: &mut W,
     ) -> Result<(), Failure> {
         let most = Duration::from_secs(seconds.unwrap_or(u64::MAX));
+        let mut asked = Asked::new(alloc);
         for _ in 0..u64::MAX {
             let elapsed = self.moments.elapsed(rt)?;
             self.turn(alloc, elapsed, output)?;
-            if elapsed >= most {
+            if elapsed >= most || (asked.has_ended() && self.is_done()) {
                 break;
             }
-            if self.port.wait(seconds.is_none()) && has_ended(input) {
-                break;
+            let is_asked = !asked.has_ended() && self.is_asked(seconds.is_none());
+            if self.port.wait(is_asked) {
+                asked.read(input)?;
+                self.take_lines(alloc, &mut asked, output)?;
             }
         }
         Ok(())

@@ -33,6 +33,8 @@ pub struct Answer {
     pub lines: Vec<u8>,
     /// The datagrams that are sent.
     pub packets: Vec<Packet>,
+    /// What discovery told of matches.
+    pub told: Vec<Told>,
 }
 
 impl Answer {
@@ -43,13 +45,23 @@ impl Answer {
         Answer {
             lines: Vec::new(alloc),
             packets: Vec::new(alloc),
+            told: Vec::new(alloc),
         }
+    }
+
+    fn tell(&mut self, told: &[Told]) -> Result<(), AllocError>
+        ensures told { OnOk result (self.new.told.items ≡ self.old.told.items ++ told.now) }
+        ensures lines { self.new.lines ≡ self.old.lines }
+        ensures packets { self.new.packets ≡ self.old.packets }
+    {
+        self.told.extend_from_slice(told)
     }
 
     fn send(&mut self, packet: Option<Packet>) -> Result<(), AllocError>
         ensures sent { OnOk result
             (self.new.packets.items ≡ self.old.packets.items ++ option_to_list packet) }
         ensures lines { self.new.lines ≡ self.old.lines }
+        ensures told { self.new.told.items ≡ self.old.told.items }
     {
         if let Some(packet) = packet {
             self.packets.push(packet)?;
@@ -61,6 +73,7 @@ impl Answer {
         ensures sent { OnOk result
             (self.new.packets.items ≡ self.old.packets.items ++ packets.items) }
         ensures lines { self.new.lines ≡ self.old.lines }
+        ensures told { self.new.told.items ≡ self.old.told.items }
     {
         self.packets.append(&mut packets)
     }
@@ -276,16 +289,41 @@ impl Watcher {
         })
     }
 
+    /// The participants that are known.
+    pub fn rows(&self) -> &[Row]
+        ensures rows { result.now ≡ self.now.discovery.participants.rows }
+    {
+        let rows = self.discovery.rows();
+        rows
+    }
+
+    /// Endpoints of others that are known.
+    pub fn far(&self) -> &[Far]
+        ensures far { result.now ≡ self.now.discovery.endpoints.far }
+    {
+        let far = self.discovery.far();
+        far
+    }
+
+    /// Our endpoints.
+    pub fn own(&self) -> &[End]
+        ensures own { result.now ≡ self.now.discovery.endpoints.own }
+    {
+        let own = self.discovery.own();
+        own
+    }
+
     /// An endpoint of ours more.
     pub fn add(&mut self, end: End, answer: &mut Answer) -> Result<(), Fault>
         // It is listed, and whom it is matched with is printed.
         ensures added { OnOk result (Adds end self.old answer.old self.new answer.new) }
     {
         list_own(self.alloc, &end, &mut answer.lines)?;
-        match self.discovery.add(self.alloc, end) {
-            Ok(told) => self.print_told(&told, &mut answer.lines),
-            Err(_) => Err(Fault::Memory),
-        }
+        let Ok(told) = self.discovery.add(self.alloc, end) else {
+            return Err(Fault::Memory);
+        };
+        answer.tell(&told)?;
+        self.print_told(&told, &mut answer.lines)
     }
 
     /// Prints who is there now, with what is known of it, or is no more.
@@ -393,6 +431,7 @@ impl Watcher {
     {
         let Done { told, packet } = done;
         self.print_told(&told, &mut answer.lines)?;
+        answer.tell(&told)?;
         answer.send(packet)?;
         Ok(())
     }

@@ -3,20 +3,26 @@
 ghost use Rattle.std.specs.Prelude.{◌≡◌, ◌++◌, ◌∷◌, [], IfOk, MatchBool, OnOk, is_some};
 ghost use Rattle.std.specs.Option.{option_map, option_to_list};
 ghost use Rattle.rtps_matching.specs.declared.end.End.{End};
-ghost use Rattle.dds_participant.specs.Words.{IsUsual, domain_of, entity_of, target_of, with_option};
+ghost use Rattle.dds_participant.specs.Words.{IsUsual, domain_of, entity_of, max_value_of, target_of, with_option};
 
 use crate::failure::Failure;
-use dds_base::{Code, EntityId, Guid, GuidPrefix};
+use crate::sharing::{Type, TypeKind};
+use dds_base::{Code, EntityId, Guid, GuidPrefix, MAX_VALUE};
+use dds_exchange::can_hold;
 use dds_script::decimal;
 use discovery_script::{address, end_of, locator};
+use rtps_adapter::{Encoding, FieldSize, KeyField};
 use rtps_announcements::{EndpointKind, Locator, is_writable_endpoint};
 use rtps_matching::End;
 use std::alloc::Global;
 
 /// What is printed where words are wrong.
 pub const USAGE: &str =
-    "usage: dds_participant who [--domain N] [--address ADDRESS].. [--interface ADDRESS] [--seconds N] \
-[--writer TOPIC TYPE [OPTION..]].. [--reader TOPIC TYPE [OPTION..]]..";
+    "usage: dds_participant who [SETTING..] [--writer TOPIC TYPE [OPTION..]].. [--reader TOPIC TYPE [OPTION..]]..
+       dds_participant listen TOPIC TYPE [OPTION..] [SETTING..] [--kind KIND] [--values N]
+       dds_participant say TOPIC TYPE [OPTION..] [SETTING..] [--kind KIND] [--values N]
+SETTING: --domain N, --address ADDRESS, --interface ADDRESS, --seconds N
+KIND: datum, keyless, cdr PLACE:SIZE.. or cdr2 PLACE:SIZE..";
 
 /// The greatest domain: above it ports end.
 const MAX_DOMAIN: u64 = 230;
@@ -30,9 +36,24 @@ pub struct Target {
     pub port: Option<u16>,
 }
 
+/// What is done.
+#[derive(Clone, Copy)]
+pub enum Purpose {
+    /// Who is there is printed.
+    Watch,
+    /// So it is, and what comes is taken and printed.
+    Listen,
+    /// So it is, and what lines say is written.
+    Say,
+}
+
 /// What the words ask for.
 #[derive(Drop)]
 pub struct Request {
+    /// What is done.
+    pub purpose: Purpose,
+    /// What our topics carry.
+    pub of: Type,
     /// The domain.
     pub domain: u32,
     /// Who is told of us; none where that is the usual.
@@ -55,6 +76,17 @@ fn domain(word: &str) -> Option<u32>
     u32::try_from(number).ok()
 }
 
+/// How many octets a value may have at most.
+fn max_value(word: &str) -> Option<u32>
+    ensures read { result ≡ max_value_of word.now }
+{
+    let number = decimal(word)?;
+    if number == 0 || number > MAX_VALUE as u64 {
+        return None;
+    }
+    u32::try_from(number).ok()
+}
+
 fn target_of(word: &str) -> Option<Target>
     ensures read { result ≡ target_of word.now }
 {
@@ -69,14 +101,17 @@ fn target_of(word: &str) -> Option<Target>
     Some(Target { address, port })
 }
 
-/// The entity id of a writer or a reader of this number, with a key.
-fn entity_of(kind: EndpointKind, number: u8) -> EntityId
-    ensures entity { result ≡ entity_of kind number }
+/// The entity id of a writer or a reader of this number, whose topic has a key or none.
+fn entity_of(kind: EndpointKind, number: u8, has_key: bool) -> EntityId
+    ensures entity { result ≡ entity_of kind number has_key }
 {
-    match kind {
-        EndpointKind::Writer => EntityId([0, 0, number, 0x02]),
-        EndpointKind::Reader => EntityId([0, 0, number, 0x07]),
-    }
+    let kind = match (kind, has_key) {
+        (EndpointKind::Writer, true) => 0x02,
+        (EndpointKind::Writer, false) => 0x03,
+        (EndpointKind::Reader, true) => 0x07,
+        (EndpointKind::Reader, false) => 0x04,
+    };
+    EntityId([0, 0, number, kind])
 }
 
 impl Request {
@@ -84,6 +119,8 @@ impl Request {
         ensures usual { IsUsual result }
     {
         Request {
+            purpose: Purpose::Watch,
+            of: Type::new(alloc),
             domain: 0,
             targets: Vec::new(alloc),
             interface: None,
@@ -106,6 +143,16 @@ impl Request {
         Ok(true)
     }
 
+    /// Whether our topics have a key: where no samples are exchanged they are taken to have one.
+    fn has_key(&self) -> bool {
+        matches!(self.purpose, Purpose::Watch) || !matches!(self.of.kind, TypeKind::Keyless)
+    }
+
+    /// Whether we hold to what an endpoint offers or asks for: where samples are exchanged our peer has to.
+    fn can_have(&self, end: &End) -> bool {
+        matches!(self.purpose, Purpose::Watch) || can_hold(&end.endpoint.lend().policies)
+    }
+
     /// One more endpoint of ours, of up to 255, if it can be announced.
     fn add(
         &mut self,
@@ -123,11 +170,11 @@ impl Request {
         let Ok(number) = u8::try_from(self.ends.len().saturating_add(1)) else {
             return Ok(false);
         };
-        let entity = entity_of(kind, number);
+        let entity = entity_of(kind, number, self.has_key());
         let Some(end) = end_of(alloc, kind, Guid { prefix, entity }, words)? else {
             return Ok(false);
         };
-        if !is_writable_endpoint(kind, &end.endpoint.lend()) {
+        if !is_writable_endpoint(kind, &end.endpoint.lend()) || !self.can_have(&end) {
             return Ok(false);
         }
         self.ends.push(end)?;
@@ -144,6 +191,8 @@ impl Request {
             self.interface = Some(address(word)?);
         } else if name == "--seconds" {
             self.seconds = Some(decimal(word)?);
+        } else if name == "--values" {
+            self.of.max_value = max_value(word)?;
         } else {
             return None;
         }
@@ -156,10 +205,90 @@ impl Request {
             ["--writer", words @ ..] => self.add(alloc, prefix, EndpointKind::Writer, words),
             ["--reader", words @ ..] => self.add(alloc, prefix, EndpointKind::Reader, words),
             ["--address", word] => self.tell(word),
+            ["--kind", kind, fields @ ..] => self.take_kind(kind, fields),
             [name, word] => Ok(self.set(name, word).is_some()),
             _ => Ok(false),
         }
     }
+
+    /// Takes up what our topics carry; whether that is a type.
+    fn take_kind(&mut self, kind: &str, fields: &[&str]) -> Result<bool, Code> {
+        self.of.kind = match kind {
+            "datum" => TypeKind::Datum,
+            "keyless" => TypeKind::Keyless,
+            "cdr" => TypeKind::Keyed(Encoding::Cdr),
+            "cdr2" => TypeKind::Keyed(Encoding::Cdr2),
+            _ => return Ok(false),
+        };
+        self.of.fields.clear();
+        for word in fields {
+            let Some(field) = key_field(word) else {
+                return Ok(false);
+            };
+            self.of.fields.push(field)?;
+        }
+        Ok(matches!(self.of.kind, TypeKind::Keyed(_)) != fields.is_empty())
+    }
+
+    /// Takes up all options of groups of words, or says where one begins that is none. What our topics carry comes first.
+    fn take_all(
+        &mut self,
+        alloc: Global,
+        prefix: GuidPrefix,
+        groups: &[Vec<&str>],
+    ) -> Result<(), Failure> {
+        for is_first in [true, false] {
+            self.take_some(alloc, prefix, groups, is_first)?;
+        }
+        Ok(())
+    }
+
+    /// Takes up those of what our topics carry, or all others.
+    fn take_some(
+        &mut self,
+        alloc: Global,
+        prefix: GuidPrefix,
+        groups: &[Vec<&str>],
+        of_kind: bool,
+    ) -> Result<(), Failure> {
+        for group in groups {
+            if is_of_kind(group) == of_kind {
+                self.take_group(alloc, prefix, group)?;
+            }
+        }
+        Ok(())
+    }
+
+    fn take_group(
+        &mut self,
+        alloc: Global,
+        prefix: GuidPrefix,
+        group: &[&str],
+    ) -> Result<(), Failure> {
+        if self.take(alloc, prefix, group)? {
+            return Ok(());
+        }
+        Err(wrong(alloc, group.first().copied().unwrap_or("")))
+    }
+}
+
+/// Whether words say what our topics carry.
+fn is_of_kind(group: &[&str]) -> bool {
+    matches!(group, ["--kind", ..])
+}
+
+/// A key field, as `16:4`: its place and its size.
+fn key_field(word: &str) -> Option<KeyField> {
+    let (place, size) = word.split_once(':')?;
+    let place = usize::try_from(decimal(place)?).ok()?;
+    let size = match decimal(size)? {
+        1 => FieldSize::One,
+        2 => FieldSize::Two,
+        4 => FieldSize::Four,
+        8 => FieldSize::Eight,
+        _ => return None,
+    };
+    Some(KeyField { place, size })
 }
 
 /// The form of an option.
@@ -169,6 +298,9 @@ fn form_of(name: &str) -> &'static str {
         "--address" => "--address ADDRESS, as 10.0.0.2 or 10.0.0.2:7410",
         "--interface" => "--interface ADDRESS, as 10.0.0.1",
         "--seconds" => "--seconds N",
+        "--kind" =>
+            "--kind datum, keyless, cdr PLACE:SIZE.. or cdr2 PLACE:SIZE.., each of 1, 2, 4 or 8 octets",
+        "--values" => "--values N, from 1 to 65000",
         "--writer" => "--writer TOPIC TYPE [OPTION..]; its options are in docs/DISCOVERY.md",
         "--reader" => "--reader TOPIC TYPE [OPTION..]; its options are in docs/DISCOVERY.md",
         _ => "no option",
@@ -198,15 +330,34 @@ fn grouped<'a>(alloc: Global, words: &'a [String]) -> Result<Vec<Vec<&'a str>>, 
     Ok(groups)
 }
 
-fn read_options(alloc: Global, prefix: GuidPrefix, words: &[String]) -> Result<Request, Failure> {
+/// What options ask for where this is done, and the words before them say an endpoint of this kind, if that is needed.
+fn read_options(
+    alloc: Global,
+    prefix: GuidPrefix,
+    purpose: Purpose,
+    words: &[String],
+) -> Result<Request, Failure> {
     let mut request = Request::new(alloc);
-    for group in grouped(alloc, words)? {
-        if !request.take(alloc, prefix, group.as_slice())? {
-            let first = group.first().copied().unwrap_or("");
-            return Err(wrong(alloc, first));
-        }
-    }
+    request.purpose = purpose;
+    let groups = grouped(alloc, words)?;
+    request.take_all(alloc, prefix, &groups)?;
     Ok(request)
+}
+
+/// The same, with an endpoint whose topic, type and options stand before all others.
+fn read_endpoint(
+    alloc: Global,
+    prefix: GuidPrefix,
+    purpose: Purpose,
+    first: &str,
+    words: &[String],
+) -> Result<Request, Failure> {
+    let mut all: Vec<String> = Vec::new(alloc);
+    all.push(String::from_str(alloc, first)?)?;
+    for word in words {
+        all.push(String::from_str(alloc, word)?)?;
+    }
+    read_options(alloc, prefix, purpose, &all)
 }
 
 /// What the words ask for, for the participant with this prefix. The first is the name of the program.
@@ -215,9 +366,13 @@ fn read_options(alloc: Global, prefix: GuidPrefix, words: &[String]) -> Result<R
 ///
 /// `Words` where they say nothing, else `Memory`.
 pub fn read_words(alloc: Global, prefix: GuidPrefix, words: &[String]) -> Result<Request, Failure> {
-    match words {
-        [_, word, options @ ..] if word.as_str() == "who" => read_options(alloc, prefix, options),
-        [_, word, ..] => Err(wrong(alloc, word.as_str())),
-        _ => Err(wrong(alloc, "")),
+    let [_, word, rest @ ..] = words else {
+        return Err(wrong(alloc, ""));
+    };
+    match word.as_str() {
+        "who" => read_options(alloc, prefix, Purpose::Watch, rest),
+        "listen" => read_endpoint(alloc, prefix, Purpose::Listen, "--reader", rest),
+        "say" => read_endpoint(alloc, prefix, Purpose::Say, "--writer", rest),
+        word => Err(wrong(alloc, word)),
     }
 }

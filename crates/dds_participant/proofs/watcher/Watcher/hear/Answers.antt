@@ -12,6 +12,7 @@ returns c = record {
       given = c.send.new.self;
       presents = rw c.in_ok-send.ensures.lines c.in_ok-print_any_presence.ensures.printed;
       sent = c.in_ok-send.ensures.sent;
+      kept = c.in_ok-send.ensures.told;
       settles = settles;
     };
   }) c.settle.ensures.settled;

@@ -36,5 +36,6 @@ returns c =
         ends = ends;
         looks = subst (λ (w : Watcher). Looks w c.loop-count.answer.lines.items c.look.new.self c.look.new.lines.items) stays looks;
         sent = refl;
+        told = refl;
       }) c.look.ensures.printed;
     }

@@ -7,5 +7,5 @@ returns c = record {
       c.settle.new.answer c.tick.new.self c.in-Ok.ticked.told.items c.in-Ok.ticked.packets.items c.send_all.new.self
       c.in-Ok.ensures.ok c.in-Ok.ensures.told.0 c.in-Ok.ensures.told.1
       (rw c.in_ok-send_all.ensures.lines (rw c.deref.ensures.value at c.in_ok-print_presences.ensures.printed))
-      c.in_ok-send_all.ensures.sent settles) c.settle.ensures.settled;
+      c.in_ok-send_all.ensures.sent c.in_ok-send_all.ensures.told settles) c.settle.ensures.settled;
 }
