@@ -1,9 +1,13 @@
 /* For examples/interop/exchange: a participant of Cyclone DDS with a writer and a reader, each of a topic of its own.
  *
- * Its words are a domain, a type of Types.idl, "reliable" or "default" for the policies of its reader, and a file of lines
- * "write KEY VALUE", "dispose KEY" and "unregister KEY". Once both are matched it makes these changes, and prints in lines
- * of the same form what it takes, each as it comes, until its standard input ends. A key is a number, 0 of a type without
- * one. A value is a word: of a datum its octets in hexadecimal digits, else NUMBER,WORDS,VALUE,VALUE.. */
+ * Its words are a domain, a type of Types.idl or Pose.idl, "reliable" or "default" for the policies of its reader, and a file
+ * of lines "write KEY VALUE", "dispose KEY" and "unregister KEY". Once both are matched it makes these changes, and prints in
+ * lines of the same form what it takes, each as it comes, until its standard input ends. A key is a number, 0 of a type
+ * without one. A value is a word: of a datum its octets in hexadecimal digits, of a pose X,Y, else NUMBER,WORDS,VALUE,VALUE..
+ *
+ * For examples/interop/participant the file is "-": then the changes are lines of its standard input, made as they come, and
+ * how many ends each of its own is matched with is printed, "matched writer N", and who does not fit, "misfit writer N POLICY". */
+#include "Pose.h"
 #include "Types.h"
 #include "dds/dds.h"
 #include "dds/version.h"
@@ -13,12 +17,14 @@
 
 #define LONGEST 65536
 #define PAUSE DDS_MSECS(2) /* between two changes */
+#define LONGEST_WAIT DDS_SECS(5) /* for what was not acknowledged yet */
 #define LINGERING DDS_SECS(1) /* for what is on its way to a reader that acknowledges nothing */
 
 typedef union sample {
     interop_Datum datum;
     interop_Text text;
     interop_Reading reading;
+    robot_Pose pose;
 } sample;
 
 typedef struct type {
@@ -107,10 +113,25 @@ static void print_reading(const sample *taken) {
     print_words(&taken->reading.said);
 }
 
+static void read_pose(sample *into, unsigned key, char *value) {
+    into->pose.robot = (int32_t)key;
+    into->pose.x = strtod(value, &value);
+    into->pose.y = *value ? strtod(value + 1, NULL) : 0;
+}
+
+static unsigned key_of_pose(const sample *taken) {
+    return (unsigned)taken->pose.robot;
+}
+
+static void print_pose(const sample *taken) {
+    printf("%.17g,%.17g", taken->pose.x, taken->pose.y);
+}
+
 static const type types[] = {
     {"datum", &interop_Datum_desc, read_datum, key_of_datum, print_datum},
     {"text", &interop_Text_desc, read_text, no_key, print_text},
     {"reading", &interop_Reading_desc, read_reading, key_of_reading, print_reading},
+    {"pose", &robot_Pose_desc, read_pose, key_of_pose, print_pose},
 };
 
 static void print_taken(const sample *taken, const dds_sample_info_t *info) {
@@ -136,6 +157,41 @@ static void take_all(dds_entity_t reader, void *context) {
     }
 }
 
+static void print_matched(const char *end, uint32_t count) {
+    printf("matched %s %u\n", end, count);
+    fflush(stdout);
+}
+
+static void reader_matched(dds_entity_t reader, const dds_subscription_matched_status_t status, void *context) {
+    (void)reader;
+    (void)context;
+    print_matched("reader", status.current_count);
+}
+
+static void writer_matched(dds_entity_t writer, const dds_publication_matched_status_t status, void *context) {
+    (void)writer;
+    (void)context;
+    print_matched("writer", status.current_count);
+}
+
+static void writer_misfits(dds_entity_t writer, const dds_offered_incompatible_qos_status_t status, void *context) {
+    (void)writer;
+    (void)context;
+    printf("misfit writer %u %u\n", status.total_count, status.last_policy_id);
+    fflush(stdout);
+}
+
+static dds_listener_t *made_listener(bool tells_matches) {
+    dds_listener_t *listener = dds_create_listener(NULL);
+    dds_lset_data_available(listener, take_all);
+    if (tells_matches) {
+        dds_lset_subscription_matched(listener, reader_matched);
+        dds_lset_publication_matched(listener, writer_matched);
+        dds_lset_offered_incompatible_qos(listener, writer_misfits);
+    }
+    return listener;
+}
+
 static void make_change(dds_entity_t writer, const char *kind, const sample *of) {
     if (strcmp(kind, "write") == 0)
         made(dds_write(writer, of));
@@ -145,11 +201,15 @@ static void make_change(dds_entity_t writer, const char *kind, const sample *of)
         made(dds_unregister_instance(writer, of));
 }
 
-static void make_changes(dds_entity_t writer, const char *path) {
-    static char line[2 * LONGEST + 64], kind[16], value[2 * LONGEST + 1];
-    FILE *changes = fopen(path, "r");
-    if (!changes)
+static FILE *opened(const char *path) {
+    FILE *file = fopen(path, "r");
+    if (!file)
         made(DDS_RETCODE_BAD_PARAMETER);
+    return file;
+}
+
+static void make_changes(dds_entity_t writer, FILE *changes) {
+    static char line[2 * LONGEST + 64], kind[16], value[2 * LONGEST + 1];
     while (fgets(line, sizeof line, changes)) {
         sample of;
         unsigned key = 0;
@@ -161,7 +221,6 @@ static void make_changes(dds_entity_t writer, const char *path) {
         make_change(writer, kind, &of);
         dds_sleepfor(PAUSE);
     }
-    fclose(changes);
 }
 
 static dds_entity_t made_topic(dds_entity_t peer, const char *name) {
@@ -178,7 +237,22 @@ static void wait_for_matches(dds_entity_t writer, dds_entity_t reader) {
     }
 }
 
+static void make_all_changes(dds_entity_t writer, dds_entity_t reader, const char *path) {
+    wait_for_matches(writer, reader);
+    FILE *changes = opened(path);
+    make_changes(writer, changes);
+    fclose(changes);
+    while (getchar() != EOF) {
+    }
+}
+
+static void make_those_asked(dds_entity_t writer) {
+    make_changes(writer, stdin);
+    dds_wait_for_acks(writer, LONGEST_WAIT);
+}
+
 static void exchange(const char *domain, bool is_reliable, const char *changes) {
+    const bool is_asked = strcmp(changes, "-") == 0;
     const dds_data_representation_id_t representation = DDS_DATA_REPRESENTATION_XCDR1;
     dds_entity_t peer = made(dds_create_participant((dds_domainid_t)strtoul(domain, NULL, 10), NULL, NULL));
     dds_qos_t *qos = dds_create_qos();
@@ -186,15 +260,14 @@ static void exchange(const char *domain, bool is_reliable, const char *changes) 
     dds_qset_history(qos, DDS_HISTORY_KEEP_ALL, 1);
     dds_qset_writer_data_lifecycle(qos, false);
     dds_qset_data_representation(qos, 1, &representation);
-    dds_listener_t *listener = dds_create_listener(NULL);
-    dds_lset_data_available(listener, take_all);
-    dds_entity_t writer = made(dds_create_writer(peer, made_topic(peer, "from_product"), qos, NULL));
+    dds_listener_t *listener = made_listener(is_asked);
+    dds_entity_t writer = made(dds_create_writer(peer, made_topic(peer, "from_product"), qos, is_asked ? listener : NULL));
     dds_qos_t *of_reader = is_reliable ? qos : NULL;
     dds_entity_t reader = made(dds_create_reader(peer, made_topic(peer, "to_product"), of_reader, listener));
-    wait_for_matches(writer, reader);
-    make_changes(writer, changes);
-    while (getchar() != EOF) {
-    }
+    if (is_asked)
+        make_those_asked(writer);
+    else
+        make_all_changes(writer, reader, changes);
     if (!is_reliable)
         dds_sleepfor(LINGERING);
     made(dds_delete(peer));
@@ -207,7 +280,7 @@ int main(int count, char **words) {
         if (strcmp(types[at].name, words[2]) == 0)
             chosen = &types[at];
     if (!chosen) {
-        fprintf(stderr, "usage: cyclone DOMAIN datum|text|reading reliable|default CHANGES\n");
+        fprintf(stderr, "usage: cyclone DOMAIN datum|text|reading|pose reliable|default CHANGES\n");
         return 2;
     }
     printf("version %s\n", DDS_VERSION);
