@@ -4,7 +4,7 @@
 //!
 //! DDS 1.4, 2.2.2.2.1 (DomainParticipant); RTPS 2.5, 8.4 (behaviour), 8.5.4 (SEDP).
 
-ghost use Rattle.std.specs.Prelude.{◌≡◌, ◌++◌, drop, length, map, slice_get, IfOk, IfErr, OnOk, OnErr};
+ghost use Rattle.std.specs.Prelude.{◌≡◌, ◌++◌, drop, is_some, length, map, slice_get, IfOk, IfErr, OnOk, OnErr};
 ghost use Rattle.dds_base.specs.Refusal.{Refuses};
 ghost use Rattle.dds_core.specs.Opening.{core_refusal};
 ghost use Rattle.dds_core.specs.Pairs.{IsPair};
@@ -155,6 +155,13 @@ impl Exchange {
             readers: self.readers.as_slice(),
             named: self.named.as_slice(),
         }
+    }
+
+    /// Whether something that was told is due.
+    pub fn has_due(&self) -> bool
+        ensures due { result ≡ is_some (slice_get self.now.due 0) }
+    {
+        self.first_due().is_some()
     }
 
     /// Discovery told this of matches, and knows these endpoints of others: it is due from now on.

@@ -1,0 +1,6 @@
+-- The definitions that contracts cite, by subject.
+pub mod Turns
+pub mod Earliness
+pub mod Opening
+pub mod Sharings
+pub mod Participants

@@ -1,0 +1,180 @@
+-- Our peer, as datagrams of the network reach it (RTPS 2.5, 8.3.4: the message receiver). What is said here of what it does is by
+-- the steps of dds_exchange, each of which is one of the machine; s becomes r, and a turn t becomes u. Where memory is wanting
+-- what came or goes is lost.
+use Rattle.std.specs.Prelude.{◌≡◌, ◌⊎◌, ℕ, ◌++◌, ◌∷◌, Bool, true, false, List, [], is_some, length, map, slice_get, Option, Some, None}
+use Rattle.dds_base.specs.declared.config.ReaderConfig.{ReaderConfig}
+use Rattle.dds_base.specs.declared.config.WriterConfig.{WriterConfig}
+use Rattle.dds_base.specs.declared.guid.Guid.{Guid}
+use Rattle.dds_base.specs.declared.guid.GuidPrefix.{GuidPrefix}
+use Rattle.dds_machine.specs.declared.reply.Reply.{Reply}
+use Rattle.dds_network.specs.Networks.{Does}
+use Rattle.dds_protocol.specs.declared.event.Event.{Event}
+use Rattle.dds_protocol.specs.declared.event.Output.{Output}
+use Rattle.dds_protocol.specs.declared.event.Packet.{Packet}
+use Rattle.rtps_discovery.specs.declared.packet.Packet.{Packet as Datagram}
+use Rattle.rtps_discovery.specs.declared.row.Row.{Row}
+use Rattle.rtps_fragments.specs.Hearing.{HearsFront, HearsMessage, Row as Fragmented}
+use Rattle.rtps_matching.specs.declared.far.Far.{Far}
+use Rattle.rtps_matching.specs.declared.told.Told.{Told}
+use Rattle.dds_exchange.specs.declared.ends.OwnEnd.{OwnEnd}
+use Rattle.dds_exchange.specs.Exchanges.{GoesOut, Hears as Takes, IsOpened as IsExchange, Meetings}
+use Rattle.dds_exchange.specs.Going.{address_of}
+use Rattle.dds_exchange.specs.States.{State as Exchange}
+use Rattle.dds_exchange.specs.Told.{due_of}
+use Rattle.dds_domain.specs.declared.early.Waiting.{Waiting}
+use Rattle.dds_domain.specs.Earliness.{kept, without}
+use Rattle.dds_domain.specs.Opening.{config_of}
+use Rattle.dds_domain.specs.Turns.{MayLack, Sends, State as Turn, lacking}
+
+-- our peer with those whom it is told of, fragments of writers that our readers are matched with, datagrams that wait for a match,
+-- what our readers are called on the network, and how often fragments were asked for
+pub record State : Type 0 where
+  pub exchange : Exchange
+  pub fragments : List Fragmented
+  pub early : List Waiting
+  pub readers : List Guid
+  pub asked : ℕ
+
+-- our peer is at its opening, and nothing else came yet
+pub record IsOpened (prefix : GuidPrefix) (writers : List WriterConfig) (readers : List ReaderConfig)
+    (own_writers own_readers : List OwnEnd) (names : List Guid) (s : State)
+    : Type 0 where
+  pub exchange : IsExchange prefix (config_of prefix writers readers) own_writers own_readers s.exchange
+  pub fragments : s.fragments ≡ []
+  pub early : s.early ≡ []
+  pub called : s.readers ≡ names
+  pub asked : s.asked ≡ 0
+
+abbrev pub with_exchange : Exchange → State → State
+with_exchange e s = record s { exchange = e }
+
+-- ---- what our peer sends
+
+-- A packet goes to the address of whom it is for, as it is turned, if it can.
+abbrev pub SendsOut : Exchange → List Row → Packet → Turn → Turn → Type 0
+SendsOut e rows packet t u =
+    ((datagram : Datagram) × GoesOut e rows packet (Some datagram) × Sends datagram t u)
+    ⊎ ((GoesOut e rows packet None × (u ≡ t)) ⊎ (u ≡ lacking t))
+
+-- So do these, in their order.
+pub data SendsAll : Exchange → List Row → List Packet → Turn → Turn → Type 0 where
+  sent_none : (e : Exchange) (rows : List Row) (t : Turn) → SendsAll e rows [] t t
+  sent_more : (e : Exchange) (rows : List Row) (packets : List Packet) (packet : Packet) (t u v : Turn)
+      → SendsAll e rows packets t u → SendsOut e rows packet u v → SendsAll e rows (packets ++ packet ∷ []) t v
+
+-- ---- what comes
+
+-- A message is one delivery, and what our peer answers goes out.
+pub record DeliversIt (rows : List Row) (bytes : List ℕ) (s : State) (t : Turn) (r : State) (u : Turn) : Type 0 where
+  pub output : Output
+  pub takes : Takes s.exchange bytes (Some output) r.exchange
+  pub rest : r ≡ with_exchange r.exchange s
+  pub sends : SendsAll r.exchange rows output.packets t u
+
+-- Or it is lost: as it gets too long, or for want of memory.
+abbrev pub Delivers : List Row → List ℕ → State → Turn → State → Turn → Type 0
+Delivers rows bytes s t r u =
+    DeliversIt rows bytes s t r u
+    ⊎ ((Takes s.exchange bytes None r.exchange × (r ≡ with_exchange r.exchange s) × (u ≡ t)) ⊎ ((r ≡ s) × (u ≡ lacking t)))
+
+-- So do these, in their order.
+pub data DeliversAll : List Row → List (List ℕ) → State → Turn → State → Turn → Type 0 where
+  delivered_none : (rows : List Row) (s : State) (t : Turn) → DeliversAll rows [] s t s t
+  delivered_more : (rows : List Row) (messages : List (List ℕ)) (message : List ℕ) (s : State) (t : Turn) (r : State) (u : Turn)
+      (q : State) (v : Turn) → DeliversAll rows messages s t r u → Delivers rows message r u q v
+      → DeliversAll rows (messages ++ message ∷ []) s t q v
+
+-- ---- matches
+
+-- What was told is due, behind what was.
+abbrev pub Tells : List Told → List Far → State → State → Type 0
+Tells told far s r =
+    r ≡ with_exchange (record s.exchange { due = s.exchange.due ++ map (due_of far) told }) s
+
+-- What waited waits no more, at most one of it.
+pub record TakesIt (s : State) (bytes : List ℕ) (r : State) : Type 0 where
+  pub place : ℕ
+  pub waiting : Waiting
+  pub at : slice_get s.early place ≡ Some waiting
+  pub same : bytes ≡ waiting.bytes
+  pub rest : r ≡ record s { early = without place s.early }
+
+abbrev pub TakesEarly : State → Option (List ℕ) → State → Type 0
+TakesEarly s None r = r ≡ s
+TakesEarly s (Some bytes) r = TakesIt s bytes r
+
+-- What waited comes, one after the other.
+pub data ComesEarly : List Row → State → Turn → State → Turn → Type 0 where
+  came_none : (rows : List Row) (s : State) (t : Turn) → ComesEarly rows s t s t
+  came_more : (rows : List Row) (bytes : List ℕ) (s : State) (t : Turn) (r : State) (u : Turn) (taken : State) (q : State)
+      (v : Turn) → ComesEarly rows s t r u → TakesIt r bytes taken → Delivers rows bytes taken u q v → ComesEarly rows s t q v
+
+-- So many that are due are done, one after the other: all of them, unless memory is wanting.
+pub record MeetsAll (s : State) (t : Turn) (r : State) (u : Turn) : Type 0 where
+  pub count : ℕ
+  pub met : Meetings count s.exchange r.exchange
+  pub all : ((count ≡ length s.exchange.due) × (u ≡ t)) ⊎ (u ≡ lacking t)
+  pub rest : r ≡ with_exchange r.exchange s
+
+-- All that is due is done, and then what waited for it comes. Of whom fragments are put together no definition says.
+pub record MeetsDue (rows : List Row) (s : State) (t : Turn) (r : State) (u : Turn) : Type 0 where
+  pub met : State
+  pub known : State
+  pub first : Turn
+  pub second : Turn
+  pub meets : MeetsAll s t met first
+  pub knows : known ≡ record met { fragments = known.fragments }
+  pub memory : MayLack first second
+  pub comes : ComesEarly rows known second r u
+
+abbrev pub Meets : List Row → State → Turn → State → Turn → Type 0
+Meets rows s t r u = MeetsDue rows s t r u ⊎ ((slice_get s.exchange.due 0 ≡ None) × (r ≡ s) × (u ≡ t))
+
+-- ---- a datagram
+
+-- It may be kept until a writer is matched.
+abbrev pub KeepsEarly : List ℕ → State → Turn → State → Turn → Type 0
+KeepsEarly bytes s t r u =
+    ((writer : Guid) × (r ≡ record s { early = kept writer bytes s.early }) × (u ≡ t)) ⊎ ((r ≡ s) × MayLack t u)
+
+-- These are the messages that its fragments make whole; where memory is wanting those of its front.
+pub record WholeOf (bytes : List ℕ) (s : State) (t : Turn) (whole : List (List ℕ)) (r : State) (u : Turn) : Type 0 where
+  pub heard : (HearsMessage bytes s.fragments r.fragments [] whole × (u ≡ t))
+      ⊎ (HearsFront bytes s.fragments r.fragments [] whole × (u ≡ lacking t))
+  pub rest : r ≡ record s { fragments = r.fragments }
+
+-- Fragments may be asked for, at the address of a participant.
+abbrev pub Asks : List Row → State → Turn → State → Turn → Type 0
+Asks rows s t r u =
+    (r ≡ record s { asked = r.asked })
+    × (((prefix : GuidPrefix) × (datagram : Datagram) × (address_of prefix rows ≡ Some datagram.to) × Sends datagram t u)
+    ⊎ MayLack t u)
+
+-- What its fragments make whole comes.
+pub record HearsFragments (rows : List Row) (bytes : List ℕ) (s : State) (t : Turn) (r : State) (u : Turn) : Type 0 where
+  pub whole : List (List ℕ)
+  pub taken : State
+  pub after : State
+  pub first : Turn
+  pub second : Turn
+  pub is_whole : WholeOf bytes s t whole taken first
+  pub delivers : DeliversAll rows whole taken first after second
+  pub asks : Asks rows after second r u
+
+-- It comes as it is, or what its fragments make whole does.
+pub record Hears (rows : List Row) (bytes : List ℕ) (s : State) (t : Turn) (r : State) (u : Turn) : Type 0 where
+  pub between : State
+  pub given : Turn
+  pub keeps : KeepsEarly bytes s t between given
+  pub comes : Delivers rows bytes between given r u ⊎ HearsFragments rows bytes between given r u
+
+-- ---- calls and the time
+
+-- It is one step of our peer, and what that sends goes out.
+pub record Happens (rows : List Row) (event : Event) (s : State) (t : Turn) (reply : Reply) (r : State) (u : Turn) : Type 0
+  where
+    pub output : Output
+    pub does : Does s.exchange.core event output r.exchange.core
+    pub rest : r ≡ with_exchange (record s.exchange { core = r.exchange.core }) s
+    pub sends : SendsAll r.exchange rows output.packets t u
+    pub answers : reply ≡ output.reply
