@@ -1,5 +1,5 @@
 -- Laws of what a watcher prints.
-use Rattle.std.proofs.Common.{◌≡◌, ◌<◌, ◌+◌, ◌||◌, ℕ, Bool, true, false, List, [], ◌∷◌, ◌++◌, add-one, append_assoc, append-nil, ap, cond, filter, get_or, length, refl, subst, sym, take, ◌∙◌, max, Result, Ok, Err, OnOk}
+use Rattle.std.proofs.Common.{◌≡◌, ◌<◌, ◌+◌, ◌||◌, ℕ, Bool, true, false, List, [], ◌∷◌, ◌++◌, append_assoc, append-nil, ap, cond, filter, get_or, length, refl, subst, sym, take, ◌∙◌}
 use Rattle.std.specs.List.{flat_map, list_any}
 use Rattle.std.proofs.lemmas.Bool.{false≢true}
 use Rattle.std.proofs.lemmas.List.Concat.{flat_map-append}
@@ -8,16 +8,7 @@ use Rattle.std.proofs.lemmas.List.{take_more}
 use Rattle.std.proofs.lemmas.List.Folds.{list_any_more}
 use Rattle.rtps_discovery.specs.declared.row.Row.{Row}
 use Rattle.rtps_discovery.specs.declared.row.Told.{Told as Presence}
-use Rattle.rtps_discovery.specs.declared.packet.Packet.{Packet}
-use Rattle.rtps_discovery.specs.Steps.{sent_at, told_at}
-use Rattle.dds_discovery.specs.Events.{ticked}
-use Rattle.dds_discovery.specs.declared.serving.Done.{Done as Doing}
-use Rattle.dds_discovery.specs.declared.discovery.Step.TheVariants.{Done}
-use Rattle.dds_discovery.specs.States.{State}
-use Rattle.dds_discovery.specs.Steps.{IsStep}
-use Rattle.dds_participant.specs.declared.watcher.Answer.{Answer}
-use Rattle.dds_participant.specs.declared.watcher.Watcher.{Watcher}
-use Rattle.dds_participant.specs.Watching.{Gives, Goes, Lists, Presents, PresentsAll, Runs, Settles, Ticks, more, with_discovery}
+use Rattle.dds_participant.specs.Watching.{Lists, Presents, PresentsAll}
 
 -- one that passes, or not, after those so far
 pub kept_more : {X : Type 0} (f : X → List ℕ) (p : X → Bool) (xs : List X) (i : ℕ) (x : X) (before out new : List ℕ)
@@ -93,34 +84,3 @@ pub presents_next : (told : List Presence) (i : ℕ) (d : Presence) (rows : List
 presents_next told i d rows a b c lt so_far step =
     subst (λ (all : List Presence). PresentsAll all rows a c) (sym (take_more told i d lt))
     (presents_more (take i told) (get_or told i d) rows a b c so_far step)
-
--- ---- events
-
--- what follows from what came of a call that went well
-pub on_ok : {A E : Type 0} (r : Result A E) (P Q : Type 0) → (P → Q) → OnOk r P → OnOk r Q
-on_ok (Ok a) P Q f holds = f holds
-on_ok (Err e) P Q f holds = holds
-
--- one step more
-pub runs_more : (n : ℕ) (w : Watcher) (a : Answer) (v : Watcher) (b : Answer) (between : State) (done : Doing) (u : Watcher)
-    (c : Answer) → Runs n w a v b → IsStep v.discovery between (Done done)
-    → Gives done.told.items done.packet (with_discovery between v) b u c → Runs (n + 1) w a u c
-runs_more n w a v b between done u c runs step gives =
-    subst (λ (m : ℕ). Runs m w a u c) (sym (add-one n))
-    (more n w a v b u c runs (record { done = done; between = between; step = step; gives = gives }))
-
--- time went on
-pub ticks : (moment : ℕ) (w : Watcher) (a : Answer) (v : Watcher) (b : Answer) (d : State) (told : List Presence)
-    (packets : List Packet) (given : Answer) → d ≡ ticked moment w.discovery
-    → told ≡ told_at w.discovery.participants (max w.discovery.participants.time moment)
-    → packets ≡ sent_at w.discovery.participants (max w.discovery.participants.time moment)
-    → PresentsAll told d.participants.rows a.lines.items given.lines.items
-    → given.packets.items ≡ a.packets.items ++ packets → given.told.items ≡ a.told.items
-    → Settles (with_discovery d w) given v b → Ticks moment w a v b
-ticks moment w a v b d told packets given is_ticked is_told is_sent presents sent same settles =
-    let now : ℕ = max w.discovery.participants.time moment in
-    subst (λ (s : State). Goes (told_at w.discovery.participants now) (sent_at w.discovery.participants now)
-    (with_discovery s w) a v b) is_ticked
-    (subst (λ (t : List Presence). Goes t (sent_at w.discovery.participants now) (with_discovery d w) a v b) is_told
-    (subst (λ (p : List Packet). Goes told p (with_discovery d w) a v b) is_sent
-    (record { given = given; presents = presents; sent = sent; kept = same; settles = settles })))

@@ -10,7 +10,7 @@ use Rattle.rtps_announcements.specs.declared.locator.Locator.{Locator}
 use Rattle.rtps_announcements.specs.declared.qos.EndpointKind.{EndpointKind}
 use Rattle.rtps_announcements.specs.declared.qos.EndpointKind.TheVariants.{Reader, Writer}
 use Rattle.discovery_script.specs.Addresses.{address_of, locator_of, number_below}
-use Rattle.dds_participant.specs.declared.sharing.TypeKind.TheVariants.{Keyless}
+use Rattle.dds_participant.specs.declared.samples.TypeKind.TheVariants.{Keyless}
 use Rattle.dds_participant.specs.declared.words.Purpose.TheVariants.{Watch}
 use Rattle.dds_participant.specs.declared.words.Request.{Request}
 use Rattle.dds_participant.specs.declared.words.Target.{Target}

@@ -4,6 +4,9 @@ use crate::failure::Failure;
 use std::alloc::{AllocError, Global};
 use std::io::Read;
 
+/// How many octets a line has at most: two for each octet of a value, and the words before it.
+const LONGEST_LINE: usize = 131_080;
+
 /// What was read and not acted on yet.
 #[derive(Drop)]
 pub struct Asked {
@@ -26,13 +29,21 @@ impl Asked {
     }
 
     /// Reads what is there.
+    ///
+    /// # Errors
+    ///
+    /// `InputFailed` where it can't be read, `LineTooLong` where a line has more than 131,080 octets, else `Memory`.
     pub fn read(&mut self, input: &mut impl Read) -> Result<(), Failure> {
+        if self.octets.len() > LONGEST_LINE {
+            return Err(Failure::LineTooLong);
+        }
         let mut octets = [0u8; 4096];
         match input.read(&mut octets) {
-            Ok(count) if count != 0 && count <= octets.len() => {
+            Ok(0) => self.has_ended = true,
+            Ok(count) if count <= octets.len() => {
                 self.octets.extend_from_slice(&octets[..count])?;
             }
-            _ => self.has_ended = true,
+            _ => return Err(Failure::InputFailed),
         }
         Ok(())
     }

@@ -6,16 +6,16 @@ ghost use Rattle.dds_participant.specs.Words.{all_locators, locators_of, machine
 use crate::failure::Failure;
 use crate::moments::Moments;
 use crate::port::{Port, group_port, own_address, unicast_port};
-use crate::sharing::Sharing;
-use crate::turns::{Live, give};
-use crate::watcher::{Answer, Watcher};
+use crate::samples::our_ends;
+use crate::turns::Live;
+use crate::watcher::Watcher;
 use crate::words::{Purpose, Request, Target, read_words};
-use dds_base::{Code, GuidPrefix};
+use dds_base::GuidPrefix;
 use dds_discovery::BUILTIN_ENDPOINTS;
-use discovery_script::{USUAL_LIMITS, one_locator, print_open};
+use dds_domain::{Participant as Domain, Unopened};
+use discovery_script::{USUAL_ENDPOINTS, USUAL_LIMITS, one_locator, print_open};
 use rtps_announcements::{Duration, Locator, Participant, VendorId};
 use rtps_discovery::Settings;
-use rtps_matching::End;
 use std::alloc::{AllocError, Global};
 use std::io::{Input, Write};
 use std::net::{Ipv4Addr, Net};
@@ -146,12 +146,28 @@ fn participant_at(prefix: GuidPrefix, locator: Locator) -> Participant
     }
 }
 
-/// Adds our endpoints, and prints them.
-fn add_all(watcher: &mut Watcher, ends: Vec<End>, answer: &mut Answer) -> Result<(), Failure> {
-    for end in ends {
-        watcher.add(end, answer)?;
+/// Why a participant does not begin. No address can be announced that is a group, or nobody's.
+fn failed(cause: Unopened, address: [u8; 4]) -> Failure {
+    match cause {
+        Unopened::Settings => Failure::NotOurs(Ipv4Addr::from(address)),
+        Unopened::Endpoints(_) => Failure::TooManyEnds,
+        Unopened::Memory => Failure::Memory,
     }
-    Ok(())
+}
+
+/// Discovery begins, and our peer.
+fn begin(
+    alloc: Global,
+    settings: Settings,
+    own: [u8; 4],
+    request: Request,
+) -> Result<Domain, Failure> {
+    let exchanges = !matches!(request.purpose, Purpose::Watch);
+    let ends = our_ends(alloc, request.ends, &request.of, exchanges)?;
+    match Domain::open(alloc, settings, USUAL_ENDPOINTS, ends) {
+        Ok(participant) => Ok(participant),
+        Err(cause) => Err(failed(cause, own)),
+    }
 }
 
 /// Opens the socket, and begins.
@@ -159,9 +175,10 @@ fn open<R: Net + Clock>(
     rt: &R,
     alloc: Global,
     prefix: GuidPrefix,
-    request: &Request,
+    request: Request,
 ) -> Result<Live, Failure> {
-    let domain = request.domain;
+    let (domain, purpose) = (request.domain, request.purpose);
+    let moments = Moments::begin(rt)?;
     let addresses = addresses_of(alloc, &request.targets, domain)?;
     let own = address_of(rt, request.interface, &addresses)?;
     let port = Port::open(rt, alloc, own, domain)?;
@@ -171,43 +188,31 @@ fn open<R: Net + Clock>(
         addresses,
         limits: USUAL_LIMITS,
     };
-    let sharing = share(alloc, prefix, request)?;
-    begin(rt, alloc, settings, port, request.purpose, sharing)
+    let participant = begin(alloc, settings, own, request)?;
+    Ok(Live {
+        alloc,
+        participant,
+        watcher: Watcher::new(alloc),
+        port,
+        moments,
+        purpose,
+    })
 }
 
-/// Our peer, where samples are exchanged.
-fn share(alloc: Global, prefix: GuidPrefix, request: &Request) -> Result<Option<Sharing>, Failure> {
-    if let Purpose::Watch = request.purpose {
-        return Ok(None);
-    }
-    let sharing = Sharing::open(alloc, prefix, request.ends.as_slice(), &request.of)?;
-    Ok(Some(sharing))
-}
-
-/// Discovery begins, and time. No address can be announced that is a group, or nobody's.
-fn begin<R: Clock>(
+/// Prints who we are and who is there, until the end.
+fn serve<R: Net + Clock + Input>(
     rt: &R,
-    alloc: Global,
-    settings: Settings,
-    port: Port,
-    purpose: Purpose,
-    sharing: Option<Sharing>,
-) -> Result<Live, Failure> {
-    let address = port.locator().address;
-    match Watcher::open(alloc, settings) {
-        Ok(watcher) => Ok(Live {
-            watcher,
-            port,
-            moments: Moments::begin(rt)?,
-            purpose,
-            sharing,
-        }),
-        Err(Code::BadParameter) => Err(Failure::NotOurs(Ipv4Addr::from(address))),
-        Err(_) => Err(Failure::Memory),
-    }
+    live: &mut Live,
+    seconds: Option<u64>,
+    head: &[u8],
+    output: &mut impl Write,
+) -> Result<(), Failure> {
+    live.begin(head, output)?;
+    let ended = live.turn_for(rt, seconds, &mut rt.reader(), output);
+    live.leave(output).and(ended)
 }
 
-/// Prints who is there, until the end.
+/// Does what is asked for, with a participant of this prefix.
 fn who<R: Net + Clock + Input>(
     rt: &R,
     alloc: Global,
@@ -215,25 +220,13 @@ fn who<R: Net + Clock + Input>(
     request: Request,
     output: &mut impl Write,
 ) -> Result<(), Failure> {
-    let mut live = open(rt, alloc, prefix, &request)?;
-    let Request {
-        seconds,
-        ends,
-        domain,
-        ..
-    } = request;
-    let mut answer = Answer::new(alloc);
-    print_open(
-        alloc,
-        &prefix,
-        &live.port.locator(),
-        domain,
-        &mut answer.lines,
-    )?;
-    add_all(&mut live.watcher, ends, &mut answer)?;
-    give(&live.port, &answer, output)?;
-    let ended = live.turn_for(rt, alloc, seconds, &mut rt.reader(), output);
-    live.leave(alloc, output).and(ended)
+    let (seconds, domain) = (request.seconds, request.domain);
+    let mut head = Vec::new(alloc);
+    let mut live = open(rt, alloc, prefix, request)?;
+    match print_open(alloc, &prefix, &live.port.locator(), domain, &mut head) {
+        Ok(()) => serve(rt, &mut live, seconds, &head, output),
+        Err(_) => Err(Failure::Memory),
+    }
 }
 
 fn run<R: Net + Clock + Input + RandomSource>(

@@ -30,6 +30,15 @@ pub enum Failure {
     /// The system tells no time.
     #[error("the clock failed")]
     ClockFailed,
+    /// Our peer can't have so many endpoints.
+    #[error("at most 16 writers and 16 readers of ours exchange samples")]
+    TooManyEnds,
+    /// The input can't be read.
+    #[error("input failed")]
+    InputFailed,
+    /// A line of the input has more than 131,080 octets.
+    #[error("input too long")]
+    LineTooLong,
     /// The system has no random octets for our name.
     #[error("there are no random octets")]
     NoRandom,

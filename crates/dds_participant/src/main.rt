@@ -1,21 +1,20 @@
 //! The program: a participant on the network, over UDP. Its word `who` prints who is there: participants and the endpoints
 //! that they announce, which endpoints of ours are matched with them, and why one is not.
 //!
+//! `listen` takes what is written for its topic and prints it with its SampleInfo, `say` writes what lines say.
+//!
 //! Contracts say which ports are those of a domain, to whom we announce ourselves, what an option of one word sets, which
-//! lines are printed of what discovery told and which datagrams are sent for it, and the exit status of a failure. They do
-//! not say how a participant or an endpoint is listed, nor what sockets and the clock give: that is tested. What
-//! discovery does is proved in `dds_discovery`.
-//! Not here: samples. No endpoint of ours sends or takes any.
+//! lines are printed of what discovery told, and the exit status of a failure. They do not say how a participant, an
+//! endpoint or a sample is printed, which calls lines ask for, nor what sockets and the clock give: that is tested. What a
+//! participant does is proved in `dds_domain`.
 #![tactic(auto)]
 
 mod asked;
-mod early;
 mod entry;
 mod failure;
-mod fragments;
 mod moments;
 mod port;
-mod sharing;
+mod samples;
 mod turns;
 mod watcher;
 mod words;

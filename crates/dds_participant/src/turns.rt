@@ -7,9 +7,10 @@ use crate::asked::Asked;
 use crate::failure::Failure;
 use crate::moments::Moments;
 use crate::port::Port;
-use crate::sharing::Sharing;
-use crate::watcher::{Answer, Watcher};
+use crate::samples::{is_behind, take_all, take_line};
+use crate::watcher::{Watcher, list_all};
 use crate::words::Purpose;
+use dds_domain::{Participant, Turn};
 use std::alloc::Global;
 use std::io::{Read, Write};
 use std::time::{Clock, Duration};
@@ -17,135 +18,132 @@ use std::time::{Clock, Duration};
 /// How many datagrams one turn takes at most.
 const MOST_DATAGRAMS: u32 = 64;
 
-/// A participant, its socket, and when it began.
+/// What is printed where memory was wanting in a turn.
+const NO_MEMORY: &[u8] = b"no memory\n";
+
+/// A participant, what was printed of it, its socket, and when it began.
 #[derive(Drop)]
 pub struct Live {
+    pub alloc: Global,
+    pub participant: Participant,
     pub watcher: Watcher,
     pub port: Port,
     pub moments: Moments,
     pub purpose: Purpose,
-    /// Where samples are exchanged.
-    pub sharing: Option<Sharing>,
+}
+
+/// What happens to a participant.
+#[derive(Clone, Copy)]
+enum Event {
+    /// The datagram comes that the port took last.
+    Datagram,
+    /// Time goes on.
+    Tick,
 }
 
 /// Prints lines, and sends datagrams.
-pub fn give<W: Write>(port: &Port, answer: &Answer, output: &mut W) -> Result<(), Failure>
+pub fn give<W: Write>(port: &Port, turn: &Turn, lines: &[u8], output: &mut W) -> Result<(), Failure>
     ensures printed { OnOk result
-        (Appends (W.contents output.old) (W.contents output.new) answer.now.lines.items) }
+        (Appends (W.contents output.old) (W.contents output.new) lines.now) }
     ensures refused { IfErr result (λ e. e ≡ Failure.OutputFailed) }
 {
-    for packet in answer.packets.iter() {
-        port.send(packet);
+    for datagram in turn.datagrams.iter() {
+        port.send(datagram);
     }
-    if answer.lines.is_empty() {
+    if lines.is_empty() {
         return Ok(());
     }
-    if output.write_all(answer.lines.as_slice()).is_err() || output.flush().is_err() {
+    if output.write_all(lines).is_err() || output.flush().is_err() {
         return Err(Failure::OutputFailed);
     }
     Ok(())
 }
 
 impl Live {
-    /// What discovery told and a datagram that came are our peer's, where we exchange samples.
-    fn share(&mut self, answer: &mut Answer) -> Result<(), Failure> {
-        if let Some(sharing) = &mut self.sharing {
-            sharing.meet(
-                &answer.told,
-                self.watcher.far(),
-                self.watcher.rows(),
-                &mut answer.packets,
-            )?;
-            sharing.hear(self.port.octets(), self.watcher.rows(), answer)?;
-            if matches!(self.purpose, Purpose::Listen) {
-                sharing.take_all(self.watcher.rows(), answer)?;
-            }
+    /// Prints this, and our endpoints.
+    pub fn begin<W: Write>(&mut self, head: &[u8], output: &mut W) -> Result<(), Failure> {
+        let mut lines = Vec::new(self.alloc);
+        lines.extend_from_slice(head)?;
+        list_all(self.alloc, self.participant.own(), &mut lines)?;
+        give(&self.port, &Turn::new(self.alloc), &lines, output)
+    }
+
+    /// What came of an event is printed and sent, with the samples that it brought, where they are wanted.
+    fn show<W: Write>(&mut self, turn: &mut Turn, output: &mut W) -> Result<(), Failure> {
+        let mut lines = Vec::new(self.alloc);
+        self.watcher.show(&self.participant, turn, &mut lines)?;
+        if let Purpose::Listen = self.purpose {
+            take_all(self.alloc, &mut self.participant, turn, &mut lines)?;
         }
-        Ok(())
+        if turn.lacks_memory {
+            lines.extend_from_slice(NO_MEMORY)?;
+        }
+        give(&self.port, turn, &lines, output)
+    }
+
+    /// An event happens at a moment.
+    fn happen<W: Write>(
+        &mut self,
+        moment: u64,
+        event: Event,
+        output: &mut W,
+    ) -> Result<(), Failure> {
+        let mut turn = Turn::new(self.alloc);
+        match event {
+            Event::Datagram => {
+                let (source, octets) = (self.port.source(), self.port.octets());
+                self.participant.hear(moment, source, octets, &mut turn);
+            }
+            Event::Tick => self.participant.tick(moment, &mut turn),
+        }
+        self.show(&mut turn, output)
     }
 
     /// Hears what came.
-    fn hear_all<W: Write>(
-        &mut self,
-        alloc: Global,
-        moment: u64,
-        output: &mut W,
-    ) -> Result<(), Failure> {
+    fn hear_all<W: Write>(&mut self, moment: u64, output: &mut W) -> Result<(), Failure> {
         for _ in 0..MOST_DATAGRAMS {
             if !self.port.take()? {
                 break;
             }
-            let mut answer = Answer::new(alloc);
-            let (source, octets) = (self.port.source(), self.port.octets());
-            self.watcher.hear(moment, source, octets, &mut answer)?;
-            self.share(&mut answer)?;
-            give(&self.port, &answer, output)?;
-        }
-        Ok(())
-    }
-
-    /// Time goes on, at discovery and then at our peer.
-    fn tick(&mut self, moment: u64, answer: &mut Answer) -> Result<(), Failure> {
-        self.watcher.tick(moment, answer)?;
-        if let Some(sharing) = &mut self.sharing {
-            sharing.meet(
-                &answer.told,
-                self.watcher.far(),
-                self.watcher.rows(),
-                &mut answer.packets,
-            )?;
-            sharing.tick(moment, self.watcher.rows(), &mut answer.packets)?;
+            self.happen(moment, Event::Datagram, output)?;
         }
         Ok(())
     }
 
     /// One turn, so long after the beginning.
-    fn turn<W: Write>(
-        &mut self,
-        alloc: Global,
-        elapsed: Duration,
-        output: &mut W,
-    ) -> Result<(), Failure> {
+    fn turn<W: Write>(&mut self, elapsed: Duration, output: &mut W) -> Result<(), Failure> {
         let moment = self.moments.after(elapsed);
-        self.hear_all(alloc, moment, output)?;
-        let mut answer = Answer::new(alloc);
-        self.tick(moment, &mut answer)?;
-        give(&self.port, &answer, output)
+        self.hear_all(moment, output)?;
+        self.happen(moment, Event::Tick, output)
     }
 
     /// Does what lines of the input ask for.
-    fn take_lines<W: Write>(
-        &mut self,
-        alloc: Global,
-        input: &mut Asked,
-        output: &mut W,
-    ) -> Result<(), Failure> {
-        let Some(sharing) = &mut self.sharing else {
+    fn take_lines<W: Write>(&mut self, input: &mut Asked, output: &mut W) -> Result<(), Failure> {
+        if let Purpose::Watch = self.purpose {
             return Ok(());
-        };
-        let mut answer = Answer::new(alloc);
+        }
+        let mut turn = Turn::new(self.alloc);
+        let mut lines = Vec::new(self.alloc);
         for _ in 0..u64::MAX {
-            let Some(line) = input.next(alloc)? else {
+            let Some(line) = input.next(self.alloc)? else {
                 break;
             };
-            sharing.take_line(&line, self.watcher.rows(), &mut answer)?;
+            take_line(
+                self.alloc,
+                &mut self.participant,
+                &line,
+                &mut turn,
+                &mut lines,
+            )?;
         }
-        give(&self.port, &answer, output)
+        give(&self.port, &turn, &lines, output)
     }
 
     /// Whether the input is read: where it ends us, or says what is written, once somebody hears it.
     fn is_asked(&self, is_endless: bool) -> bool {
-        match (&self.sharing, self.purpose) {
-            (Some(sharing), Purpose::Say) => sharing.has_matches(),
-            _ => is_endless,
-        }
-    }
-
-    /// Whether all that was said was heard.
-    fn is_done(&self) -> bool {
-        match &self.sharing {
-            Some(sharing) => !sharing.is_behind(),
-            None => true,
+        match self.purpose {
+            Purpose::Say => !self.participant.named().is_empty(),
+            Purpose::Listen | Purpose::Watch => is_endless,
         }
     }
 
@@ -153,35 +151,34 @@ impl Live {
     pub fn turn_for<R: Clock, I: Read, W: Write>(
         &mut self,
         rt: &R,
-        alloc: Global,
         seconds: Option<u64>,
         input: &mut I,
         output: &mut W,
     ) -> Result<(), Failure> {
         let most = Duration::from_secs(seconds.unwrap_or(u64::MAX));
-        let mut asked = Asked::new(alloc);
+        let mut asked = Asked::new(self.alloc);
         for _ in 0..u64::MAX {
             let elapsed = self.moments.elapsed(rt)?;
-            self.turn(alloc, elapsed, output)?;
-            if elapsed >= most || (asked.has_ended() && self.is_done()) {
+            self.turn(elapsed, output)?;
+            if elapsed >= most || (asked.has_ended() && !is_behind(&self.participant)) {
                 break;
             }
             let is_asked = !asked.has_ended() && self.is_asked(seconds.is_none());
             if self.port.wait(is_asked) {
                 asked.read(input)?;
-                self.take_lines(alloc, &mut asked, output)?;
+                self.take_lines(&mut asked, output)?;
             }
         }
         Ok(())
     }
 
     /// We say that we leave.
-    pub fn leave<W: Write>(&self, alloc: Global, output: &mut W) -> Result<(), Failure>
+    pub fn leave<W: Write>(&self, output: &mut W) -> Result<(), Failure>
         // Nothing is printed.
         ensures printed { OnOk result (Appends (W.contents output.old) (W.contents output.new) []) }
     {
-        let mut answer = Answer::new(alloc);
-        self.watcher.close(&mut answer)?;
-        give(&self.port, &answer, output)
+        let mut turn = Turn::new(self.alloc);
+        self.participant.close(&mut turn);
+        give(&self.port, &turn, &[], output)
     }
 }

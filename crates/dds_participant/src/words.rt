@@ -6,7 +6,7 @@ ghost use Rattle.rtps_matching.specs.declared.end.End.{End};
 ghost use Rattle.dds_participant.specs.Words.{IsUsual, domain_of, entity_of, max_value_of, target_of, with_option};
 
 use crate::failure::Failure;
-use crate::sharing::{Type, TypeKind};
+use crate::samples::{Type, TypeKind};
 use dds_base::{Code, EntityId, Guid, GuidPrefix, MAX_VALUE};
 use dds_exchange::can_hold;
 use dds_script::decimal;
