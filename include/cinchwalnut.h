@@ -428,14 +428,120 @@ uint64_t cw_unsent(cw_peer *peer);
 /* The reply in words, and a line feed: what docs/PIPE.md has behind "reply". */
 uint8_t cw_text(cw_peer *peer, uint8_t *buffer, size_t buffer_len, size_t *needed);
 
-/* The mark: each call above of a peer goes by a function of this header, which answers CW_BUSY where another thread is in a
- * call of the same peer. It takes NULL with a length of 0, and answers CW_BAD_PARAMETER to NULL with another one. */
-static inline bool cw_enters(cw_peer *peer) {
-    return __atomic_exchange_n(&peer->is_busy, (uint8_t)1, __ATOMIC_ACQUIRE) == 0;
+/* A participant of a domain (DDS 1.4, 2.2.2.2.1): discovery, and a peer whose writers and readers are matched with those that
+ * discovery finds, of this library or of another product (RTPS 2.5, 8.5). It does no input and no output either: what comes is
+ * told by these calls, and what is to be sent is fetched, with its address: cinchwalnut_udp.h has the sockets and the clock.
+ *
+ * One that is open, or none, as a cw_peer is. */
+typedef struct cw_participant {
+    bool is_open;
+    void *held;
+    uint8_t is_busy;
+} cw_participant;
+
+#define CW_PARTICIPANT_NONE {false, NULL, 0}
+
+/* An address of IPv4 and a port of UDP. */
+typedef struct cw_locator {
+    uint8_t address[4];
+    uint16_t port;
+} cw_locator;
+
+/* What a participant announces of itself. Its prefix is no other participant's, nor an earlier one's: twelve octets of chance,
+ * of which the first two are zero, as there is no vendor. */
+typedef struct cw_participant_settings {
+    uint8_t prefix[12];
+    uint8_t address[4]; /* where it is reached: no group's, and not 0.0.0.0; */
+    uint16_t port;      /* its port there, not 0 */
+    uint32_t domain;
+    uint64_t lease;     /* for how long it is there once it was heard, in units of 2^-32 second, below 2^63; 0 for 8 seconds */
+} cw_participant_settings;
+
+/* A writer or a reader of a participant: volatile, automatic, without deadline, and KEEP_ALL without limits. Others match it
+ * where topic, type and these policies fit. A name ends before the first octet that is zero, or with the last one. */
+typedef struct cw_endpoint {
+    uint8_t topic_name[256];
+    uint8_t type_name[256];
+    uint8_t kind;         /* CW_WRITER or CW_READER */
+    uint8_t carries;      /* CW_DATUM, CW_KEYLESS, CW_CDR or CW_CDR2 */
+    bool is_exclusive;    /* OWNERSHIP: EXCLUSIVE, else SHARED */
+    bool is_best_effort;  /* RELIABILITY: BEST_EFFORT, else RELIABLE */
+    int32_t strength;     /* OWNERSHIP_STRENGTH, where is_exclusive */
+    uint32_t first_field; /* as in cw_writer_kind */
+    uint32_t field_count;
+    uint32_t max_value;   /* how many octets a value has at most: 1 to 65,000, or 0 for 1,024 */
+} cw_endpoint;
+
+/* What changed between a writer or a reader of a participant, by its GUID, and one of another one. */
+enum {
+    CW_MATCHED = 1,   /* they are matched, and were not */
+    CW_UNMATCHED = 2, /* they were matched, and are not */
+    CW_CHANGED = 3    /* they are still, and the other one announces something else */
+};
+
+typedef struct cw_told {
+    uint8_t change;
+    uint8_t own[16];
+    uint8_t other[16];
+} cw_told;
+
+/* That another participant appeared, or is gone: it left, or was not heard for its lease. */
+typedef struct cw_presence {
+    bool is_there;
+    uint8_t prefix[12];
+} cw_presence;
+
+/* Opens a participant; what was open before is closed. Its writers are numbered from 1 in their order, and so are its readers,
+ * up to 16 of each. It announces itself to the addresses of told, as the group of the domain, and to who announces itself.
+ * CW_BAD_PARAMETER where its address is none to be reached at, a lease has 2^31 seconds or more, or an endpoint is none; a
+ * refusal changes nothing. */
+uint8_t cw_participant_open(cw_participant *participant, const cw_participant_settings *settings, const cw_locator *told,
+                            size_t told_len, const cw_endpoint *ends, size_t ends_len, const cw_key_field *fields,
+                            size_t fields_len);
+/* Frees what it holds, and tells nobody: cw_participant_leave does before. */
+void cw_participant_close(cw_participant *participant);
+
+/* Events. What comes of one takes the place of what came of the last: datagrams, a reply, and what changed. Each is fetched and
+ * sent before the next event. Moments are of the caller's clock, in units of 2^-32 second, and never go back.
+ *
+ * A datagram comes from an address; the time goes on, by which the participant announces itself, repairs and finds who is gone,
+ * so twice a second or more; it says that it leaves. CW_MEMORY: something was lost, as by a network, or is done later. */
+uint8_t cw_participant_hear(cw_participant *participant, uint64_t now, const uint8_t address[4], const uint8_t *datagram,
+                            size_t datagram_len);
+uint8_t cw_participant_tick(cw_participant *participant, uint64_t now);
+uint8_t cw_participant_leave(cw_participant *participant);
+/* Calls, as those of a peer. A value is a payload, with representation and options, but where it is the datum; a key of a type
+ * without a key is sixteen zeros. Of a packet that found no memory the code says nothing: it is as lost. A line is a call. */
+uint8_t cw_participant_register(cw_participant *participant, uint8_t writer, const uint8_t key[16]);
+uint8_t cw_participant_write(cw_participant *participant, uint8_t writer, const uint8_t key[16], const uint8_t *value,
+                             size_t value_len);
+uint8_t cw_participant_dispose(cw_participant *participant, uint8_t writer, const uint8_t key[16]);
+uint8_t cw_participant_unregister(cw_participant *participant, uint8_t writer, const uint8_t key[16]);
+uint8_t cw_participant_read(cw_participant *participant, uint8_t reader, int32_t max, uint32_t samples, uint32_t views,
+                            uint32_t instances);
+uint8_t cw_participant_take(cw_participant *participant, uint8_t reader, int32_t max, uint32_t samples, uint32_t views,
+                            uint32_t instances);
+uint8_t cw_participant_line(cw_participant *participant, const uint8_t *line, size_t line_len);
+
+/* Fetches of what came of the last event, from 0 on, as those of a peer. */
+uint8_t cw_participant_datagram(cw_participant *participant, size_t at, uint8_t address[4], uint16_t *port, uint8_t *buffer,
+                                size_t buffer_len, size_t *needed);
+uint8_t cw_participant_sample(cw_participant *participant, size_t at, cw_sample_info *info, uint8_t *buffer, size_t buffer_len,
+                              size_t *needed);
+uint8_t cw_participant_told(cw_participant *participant, size_t at, cw_told *told);
+uint8_t cw_participant_presence(cw_participant *participant, size_t at, cw_presence *presence);
+uint8_t cw_participant_text(cw_participant *participant, uint8_t *buffer, size_t buffer_len, size_t *needed);
+/* Whether some matched reliable reader has not acknowledged all that was written: 1, else 0, as where none is open. */
+uint8_t cw_participant_is_behind(cw_participant *participant);
+
+/* The mark: each call above of a peer or a participant goes by a function of this header, which answers CW_BUSY where another
+ * thread is in a call of the same one. It takes NULL with a length of 0, and answers CW_BAD_PARAMETER to NULL with another one. */
+static inline bool cw_enters(uint8_t *is_busy) {
+    return __atomic_exchange_n(is_busy, (uint8_t)1, __ATOMIC_ACQUIRE) == 0;
 }
 
-static inline void cw_leaves(cw_peer *peer) {
-    __atomic_store_n(&peer->is_busy, (uint8_t)0, __ATOMIC_RELEASE);
+static inline void cw_leaves(uint8_t *is_busy) {
+    __atomic_store_n(is_busy, (uint8_t)0, __ATOMIC_RELEASE);
 }
 
 static inline bool cw_is_array(const void *start, size_t len) {
@@ -448,16 +554,18 @@ static inline void *cw_array(const void *start) {
     return start != NULL ? (void *)(uintptr_t)start : &nothing;
 }
 
-#define CW_MARKED_IF(is_valid, call, nonnull, parameters, arguments) \
-    static inline nonnull uint8_t cw_marked_##call parameters {      \
-        if (!(is_valid))                                             \
-            return CW_BAD_PARAMETER;                                 \
-        if (!cw_enters(peer))                                        \
-            return CW_BUSY;                                          \
-        uint8_t code = cw_##call arguments;                          \
-        cw_leaves(peer);                                             \
-        return code;                                                 \
+#define CW_MARKED_OF(handle, is_valid, call, nonnull, parameters, arguments) \
+    static inline nonnull uint8_t cw_marked_##call parameters {              \
+        if (!(is_valid))                                                     \
+            return CW_BAD_PARAMETER;                                         \
+        if (!cw_enters(&(handle)->is_busy))                                  \
+            return CW_BUSY;                                                  \
+        uint8_t code = cw_##call arguments;                                  \
+        cw_leaves(&(handle)->is_busy);                                       \
+        return code;                                                         \
     }
+#define CW_MARKED_IF(is_valid, call, nonnull, parameters, arguments) \
+    CW_MARKED_OF(peer, is_valid, call, nonnull, parameters, arguments)
 #define CW_CHECKED(is_valid, call, nonnull, parameters, arguments)   \
     static inline nonnull uint8_t cw_marked_##call parameters {      \
         if (!(is_valid))                                             \
@@ -608,18 +716,79 @@ CW_MARKED_IF(cw_is_array(buffer, buffer_len), text, CW_NONNULL(1, 4),
              (peer, (uint8_t *)cw_array(buffer), buffer_len, needed))
 
 static inline CW_NONNULL() void cw_marked_close(cw_peer *peer) {
-    if (!cw_enters(peer))
+    if (!cw_enters(&peer->is_busy))
         return;
     cw_close(peer);
-    cw_leaves(peer);
+    cw_leaves(&peer->is_busy);
 }
 
 static inline CW_NONNULL() uint64_t cw_marked_unsent(cw_peer *peer) {
-    if (!cw_enters(peer))
+    if (!cw_enters(&peer->is_busy))
         return 0;
     uint64_t unsent = cw_unsent(peer);
-    cw_leaves(peer);
+    cw_leaves(&peer->is_busy);
     return unsent;
+}
+
+#define CW_PARTICIPANT_IF(is_valid, call, nonnull, parameters, arguments) \
+    CW_MARKED_OF(participant, is_valid, participant_##call, nonnull, parameters, arguments)
+#define CW_PARTICIPANT_CALL(call, parameters, arguments) CW_PARTICIPANT_IF(true, call, CW_NONNULL(), parameters, arguments)
+
+CW_PARTICIPANT_IF(cw_is_array(told, told_len) && cw_is_array(ends, ends_len) && cw_is_array(fields, fields_len),
+                  open, CW_NONNULL(1, 2),
+                  (cw_participant *participant, const cw_participant_settings *settings, const cw_locator *told,
+                   size_t told_len, const cw_endpoint *ends, size_t ends_len, const cw_key_field *fields, size_t fields_len),
+                  (participant, settings, (const cw_locator *)cw_array(told), told_len, (const cw_endpoint *)cw_array(ends),
+                   ends_len, (const cw_key_field *)cw_array(fields), fields_len))
+CW_PARTICIPANT_IF(cw_is_array(datagram, datagram_len), hear, CW_NONNULL(1, 3),
+                  (cw_participant *participant, uint64_t now, const uint8_t address[4], const uint8_t *datagram,
+                   size_t datagram_len),
+                  (participant, now, address, (const uint8_t *)cw_array(datagram), datagram_len))
+CW_PARTICIPANT_CALL(tick, (cw_participant *participant, uint64_t now), (participant, now))
+CW_PARTICIPANT_CALL(leave, (cw_participant *participant), (participant))
+CW_PARTICIPANT_CALL(register, (cw_participant *participant, uint8_t writer, const uint8_t key[16]), (participant, writer, key))
+CW_PARTICIPANT_IF(cw_is_array(value, value_len), write, CW_NONNULL(1, 3),
+                  (cw_participant *participant, uint8_t writer, const uint8_t key[16], const uint8_t *value, size_t value_len),
+                  (participant, writer, key, (const uint8_t *)cw_array(value), value_len))
+CW_PARTICIPANT_CALL(dispose, (cw_participant *participant, uint8_t writer, const uint8_t key[16]), (participant, writer, key))
+CW_PARTICIPANT_CALL(unregister, (cw_participant *participant, uint8_t writer, const uint8_t key[16]),
+                    (participant, writer, key))
+CW_PARTICIPANT_CALL(read, (cw_participant *participant, uint8_t reader, int32_t max, uint32_t samples, uint32_t views,
+                     uint32_t instances),
+                    (participant, reader, max, samples, views, instances))
+CW_PARTICIPANT_CALL(take, (cw_participant *participant, uint8_t reader, int32_t max, uint32_t samples, uint32_t views,
+                     uint32_t instances),
+                    (participant, reader, max, samples, views, instances))
+CW_PARTICIPANT_IF(cw_is_array(line, line_len), line, CW_NONNULL(1),
+                  (cw_participant *participant, const uint8_t *line, size_t line_len),
+                  (participant, (const uint8_t *)cw_array(line), line_len))
+CW_PARTICIPANT_IF(cw_is_array(buffer, buffer_len), datagram, CW_NONNULL(1, 3, 4, 7),
+                  (cw_participant *participant, size_t at, uint8_t address[4], uint16_t *port, uint8_t *buffer,
+                   size_t buffer_len, size_t *needed),
+                  (participant, at, address, port, (uint8_t *)cw_array(buffer), buffer_len, needed))
+CW_PARTICIPANT_IF(cw_is_array(buffer, buffer_len), sample, CW_NONNULL(1, 3, 6),
+                  (cw_participant *participant, size_t at, cw_sample_info *info, uint8_t *buffer, size_t buffer_len,
+                   size_t *needed),
+                  (participant, at, info, (uint8_t *)cw_array(buffer), buffer_len, needed))
+CW_PARTICIPANT_CALL(told, (cw_participant *participant, size_t at, cw_told *told), (participant, at, told))
+CW_PARTICIPANT_CALL(presence, (cw_participant *participant, size_t at, cw_presence *presence), (participant, at, presence))
+CW_PARTICIPANT_IF(cw_is_array(buffer, buffer_len), text, CW_NONNULL(1, 4),
+                  (cw_participant *participant, uint8_t *buffer, size_t buffer_len, size_t *needed),
+                  (participant, (uint8_t *)cw_array(buffer), buffer_len, needed))
+
+static inline CW_NONNULL() void cw_marked_participant_close(cw_participant *participant) {
+    if (!cw_enters(&participant->is_busy))
+        return;
+    cw_participant_close(participant);
+    cw_leaves(&participant->is_busy);
+}
+
+static inline CW_NONNULL() uint8_t cw_marked_participant_is_behind(cw_participant *participant) {
+    if (!cw_enters(&participant->is_busy))
+        return 0;
+    uint8_t is_behind = cw_participant_is_behind(participant);
+    cw_leaves(&participant->is_busy);
+    return is_behind;
 }
 
 #define cw_open cw_marked_open
@@ -683,6 +852,24 @@ static inline CW_NONNULL() uint64_t cw_marked_unsent(cw_peer *peer) {
 #define cw_matched cw_marked_matched
 #define cw_unsent cw_marked_unsent
 #define cw_text cw_marked_text
+#define cw_participant_open cw_marked_participant_open
+#define cw_participant_close cw_marked_participant_close
+#define cw_participant_hear cw_marked_participant_hear
+#define cw_participant_tick cw_marked_participant_tick
+#define cw_participant_leave cw_marked_participant_leave
+#define cw_participant_register cw_marked_participant_register
+#define cw_participant_write cw_marked_participant_write
+#define cw_participant_dispose cw_marked_participant_dispose
+#define cw_participant_unregister cw_marked_participant_unregister
+#define cw_participant_read cw_marked_participant_read
+#define cw_participant_take cw_marked_participant_take
+#define cw_participant_line cw_marked_participant_line
+#define cw_participant_datagram cw_marked_participant_datagram
+#define cw_participant_sample cw_marked_participant_sample
+#define cw_participant_told cw_marked_participant_told
+#define cw_participant_presence cw_marked_participant_presence
+#define cw_participant_text cw_marked_participant_text
+#define cw_participant_is_behind cw_marked_participant_is_behind
 
 #ifdef __cplusplus
 }

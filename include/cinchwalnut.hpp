@@ -1,4 +1,4 @@
-// A peer that closes itself, for C++17, over cinchwalnut.h.
+// A peer and a participant that close themselves, for C++17, over cinchwalnut.h.
 #ifndef CINCHWALNUT_HPP
 #define CINCHWALNUT_HPP
 
@@ -50,17 +50,41 @@ inline std::string fault_of(const Config &config) {
     return sentence;
 }
 
-/// A peer, and a buffer into which its fetches copy: it is made at the first fetch, and grows where that is asked for.
+/// A buffer into which fetches copy: it is made at the first fetch, and grows where that is asked for.
+class Fetched {
+public:
+    /// Hands each thing that is there to `give`, by how many octets stand in the buffer: fetch(at, buffer, len, needed) copies it.
+    template <class Fetch, class Give> void each(Fetch fetch, Give give) {
+        if (buffer_.empty())
+            buffer_.resize(std::size_t{1} << 16);
+        for (std::size_t at = 0;; at++) {
+            std::size_t needed = 0;
+            std::uint8_t code = fetch(at, buffer_.data(), buffer_.size(), &needed);
+            if (code == CW_OUT_OF_RESOURCES) {
+                buffer_.resize(needed);
+                code = fetch(at, buffer_.data(), buffer_.size(), &needed);
+            }
+            if (code != CW_OK)
+                return;
+            give(static_cast<const std::uint8_t *>(buffer_.data()), needed);
+        }
+    }
+
+private:
+    Octets buffer_;
+};
+
+/// A peer, with a buffer for its fetches.
 class Peer {
 public:
     Peer() = default;
     Peer(const Peer &) = delete;
     Peer &operator=(const Peer &) = delete;
     Peer(Peer &&other) noexcept
-        : peer_(std::exchange(other.peer_, cw_peer CW_PEER_NONE)), buffer_(std::move(other.buffer_)) {}
+        : peer_(std::exchange(other.peer_, cw_peer CW_PEER_NONE)), fetched_(std::move(other.fetched_)) {}
     Peer &operator=(Peer &&other) noexcept {
         std::swap(peer_, other.peer_);
-        std::swap(buffer_, other.buffer_);
+        std::swap(fetched_, other.fetched_);
         return *this;
     }
     ~Peer() { cw_close(&peer_); }
@@ -98,19 +122,17 @@ public:
     /// f makes no call of this peer.
     template <class F> void for_each_packet(F &&f) {
         std::uint32_t to = 0;
-        each([&](std::size_t at, std::size_t &needed) {
-            return cw_packet(&peer_, at, &to, buffer_.data(), buffer_.size(), &needed);
-        }, [&](std::size_t len) { f(to, static_cast<const std::uint8_t *>(buffer_.data()), len); });
+        fetched_.each([&](std::size_t at, std::uint8_t *buffer, std::size_t room, std::size_t *needed) {
+            return cw_packet(&peer_, at, &to, buffer, room, needed);
+        }, [&](const std::uint8_t *octets, std::size_t len) { f(to, octets, len); });
     }
 
     /// Hands each sample of the last answer to f(info, value, len), likewise.
     template <class F> void for_each_sample(F &&f) {
         cw_sample_info info{};
-        each([&](std::size_t at, std::size_t &needed) {
-            return cw_sample(&peer_, at, &info, buffer_.data(), buffer_.size(), &needed);
-        }, [&](std::size_t len) {
-            f(static_cast<const cw_sample_info &>(info), static_cast<const std::uint8_t *>(buffer_.data()), len);
-        });
+        fetched_.each([&](std::size_t at, std::uint8_t *buffer, std::size_t room, std::size_t *needed) {
+            return cw_sample(&peer_, at, &info, buffer, room, needed);
+        }, [&](const std::uint8_t *value, std::size_t len) { f(static_cast<const cw_sample_info &>(info), value, len); });
     }
 
     /// The packets of the last answer, copied.
@@ -132,24 +154,93 @@ public:
     }
 
 private:
-    template <class Fetch, class Give> void each(Fetch fetch, Give give) {
-        if (buffer_.empty())
-            buffer_.resize(std::size_t{1} << 16);
-        for (std::size_t at = 0;; at++) {
-            std::size_t needed = 0;
-            std::uint8_t code = fetch(at, needed);
-            if (code == CW_OUT_OF_RESOURCES) {
-                buffer_.resize(needed);
-                code = fetch(at, needed);
-            }
-            if (code != CW_OK)
-                return;
-            give(needed);
-        }
+    cw_peer peer_ = CW_PEER_NONE;
+    Fetched fetched_;
+};
+
+/// A writer or a reader of a participant, whose names have up to 256 octets; else they are cut.
+inline cw_endpoint endpoint(std::uint8_t kind, const std::string &topic_name, const std::string &type_name,
+                            std::uint8_t carries = CW_KEYLESS) {
+    cw_endpoint made{};
+    std::copy_n(topic_name.begin(), std::min(topic_name.size(), sizeof made.topic_name), made.topic_name);
+    std::copy_n(type_name.begin(), std::min(type_name.size(), sizeof made.type_name), made.type_name);
+    made.kind = kind;
+    made.carries = carries;
+    return made;
+}
+
+/// A participant of a domain, with a buffer for its fetches. It leaves only where it is told to.
+class Participant {
+public:
+    Participant() = default;
+    Participant(const Participant &) = delete;
+    Participant &operator=(const Participant &) = delete;
+    Participant(Participant &&other) noexcept
+        : held_(std::exchange(other.held_, cw_participant CW_PARTICIPANT_NONE)), fetched_(std::move(other.fetched_)) {}
+    Participant &operator=(Participant &&other) noexcept {
+        std::swap(held_, other.held_);
+        std::swap(fetched_, other.fetched_);
+        return *this;
+    }
+    ~Participant() { cw_participant_close(&held_); }
+
+    /// Each of these answers a code, CW_OK where it was done.
+    std::uint8_t open(const cw_participant_settings &settings, const std::vector<cw_locator> &told,
+                      const std::vector<cw_endpoint> &ends, const std::vector<cw_key_field> &fields = {}) {
+        return cw_participant_open(&held_, &settings, told.data(), told.size(), ends.data(), ends.size(), fields.data(),
+                                   fields.size());
+    }
+    std::uint8_t hear(std::uint64_t now, const std::uint8_t address[4], const std::uint8_t *datagram, std::size_t datagram_len) {
+        return cw_participant_hear(&held_, now, address, datagram, datagram_len);
+    }
+    std::uint8_t tick(std::uint64_t now) { return cw_participant_tick(&held_, now); }
+    std::uint8_t leave() { return cw_participant_leave(&held_); }
+    std::uint8_t write(std::uint8_t writer, const Key &key, const Octets &value) {
+        return cw_participant_write(&held_, writer, key.data(), value.data(), value.size());
+    }
+    std::uint8_t dispose(std::uint8_t writer, const Key &key) { return cw_participant_dispose(&held_, writer, key.data()); }
+    std::uint8_t read(std::uint8_t reader, std::int32_t max = -1) {
+        return cw_participant_read(&held_, reader, max, CW_ANY, CW_ANY, CW_ANY);
+    }
+    std::uint8_t take(std::uint8_t reader, std::int32_t max = -1) {
+        return cw_participant_take(&held_, reader, max, CW_ANY, CW_ANY, CW_ANY);
+    }
+    bool is_behind() { return cw_participant_is_behind(&held_) != 0; }
+
+    /// For all other calls of cinchwalnut.h.
+    cw_participant *get() { return &held_; }
+
+    /// Hands each datagram of the last event to f(to, octets, len), without a copy: the octets stand there until f returns, and
+    /// f makes no call of this participant.
+    template <class F> void for_each_datagram(F &&f) {
+        cw_locator to{};
+        fetched_.each([&](std::size_t at, std::uint8_t *buffer, std::size_t room, std::size_t *needed) {
+            return cw_participant_datagram(&held_, at, to.address, &to.port, buffer, room, needed);
+        }, [&](const std::uint8_t *octets, std::size_t len) { f(static_cast<const cw_locator &>(to), octets, len); });
     }
 
-    cw_peer peer_ = CW_PEER_NONE;
-    Octets buffer_;
+    /// Hands each sample of the last read or take to f(info, value, len), likewise.
+    template <class F> void for_each_sample(F &&f) {
+        cw_sample_info info{};
+        fetched_.each([&](std::size_t at, std::uint8_t *buffer, std::size_t room, std::size_t *needed) {
+            return cw_participant_sample(&held_, at, &info, buffer, room, needed);
+        }, [&](const std::uint8_t *value, std::size_t len) { f(static_cast<const cw_sample_info &>(info), value, len); });
+    }
+
+    /// What changed of matches, and who appeared or is gone.
+    std::vector<cw_told> told() { return all<cw_told>(cw_participant_told); }
+    std::vector<cw_presence> presences() { return all<cw_presence>(cw_participant_presence); }
+
+private:
+    template <class Element> std::vector<Element> all(std::uint8_t (*fetch)(cw_participant *, std::size_t, Element *)) {
+        std::vector<Element> got;
+        for (Element one{}; fetch(&held_, got.size(), &one) == CW_OK;)
+            got.push_back(one);
+        return got;
+    }
+
+    cw_participant held_ = CW_PARTICIPANT_NONE;
+    Fetched fetched_;
 };
 
 } // namespace cinchwalnut

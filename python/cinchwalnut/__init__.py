@@ -1,8 +1,8 @@
 """Peers of the Data Distribution Service, over libcinchwalnut.so: docs/C.md says how it is built, and what is proved of it.
 
 It has the calls of include/cinchwalnut.h, which says what each does, by their names without `cw_`. `cw_open` is `Peer(..)`,
-`cw_open_text` is `Peer.from_text`, `cw_greet_reader` is `match_reader(.., greeted=True)`, and `cw_observe_writer` is
-`observe(.., writer=..)`."""
+`cw_open_text` is `Peer.from_text`, `cw_greet_reader` is `match_reader(.., greeted=True)`, `cw_observe_writer` is
+`observe(.., writer=..)`, and the calls of a `Participant` have their names without `cw_participant_`. `Udp` has its sockets."""
 from ._codes import (
     ANY,
     BadParameter,
@@ -25,19 +25,26 @@ from ._codes import (
 from ._config import ReaderConfig, WriterConfig, reader, writer
 from ._faults import ConfigFault, config_fault, config_sum, line_fault, text_fault
 from ._adapter import Adapter, Carries, KeyField, WriterKind
-from ._peer import SECOND, ChangedStatus, End, MatchedStatus, NoticeInfo, Observed, Packet, Peer, Sample, SampleInfo, TotalStatus, ms
+from ._holding import Sample, SampleInfo
+from ._participant import Address, Change, Datagram, Endpoint, Participant, Presence, Told, data_reader, data_writer
+from ._peer import SECOND, ChangedStatus, End, MatchedStatus, NoticeInfo, Observed, Packet, Peer, TotalStatus, ms
 from ._recorded import RecordedPeer
+from ._udp import Udp, new_prefix, now, own_host
 
 __all__ = [
     "ANY",
     "SECOND",
     "Adapter",
+    "Address",
     "BadParameter",
     "Carries",
+    "Change",
     "ChangedStatus",
     "Code",
     "ConfigFault",
+    "Datagram",
     "End",
+    "Endpoint",
     "EntityKind",
     "InconsistentPolicy",
     "InstanceState",
@@ -49,9 +56,11 @@ __all__ = [
     "OutOfMemory",
     "OutOfResources",
     "Packet",
+    "Participant",
     "Peer",
     "Place",
     "PreconditionNotMet",
+    "Presence",
     "ReaderConfig",
     "RecordedPeer",
     "Refused",
@@ -61,14 +70,21 @@ __all__ = [
     "SampleState",
     "Status",
     "Timeout",
+    "Told",
     "TotalStatus",
+    "Udp",
     "ViewState",
     "WriterConfig",
     "WriterKind",
     "config_fault",
     "config_sum",
+    "data_reader",
+    "data_writer",
     "line_fault",
     "ms",
+    "new_prefix",
+    "now",
+    "own_host",
     "reader",
     "text_fault",
     "writer",

@@ -54,9 +54,7 @@ class Adapter:
             prefix = tuple(octets_of(12, kind.prefix, "a prefix"))
             entity = tuple(octets_of(4, kind.entity, "an entity"))
             carries = Carries(kind.carries)
-            own = [_library.CKeyField(u32(it.place, "a place"), _size(it.size)) for it in kind.fields]
-            if own and carries not in (Carries.CDR, Carries.CDR2):
-                raise ValueError(f"{carries.name} has no key fields")
+            own = key_fields(carries, kind.fields)
             rows.append(_library.CWriterKind(prefix, entity, carries, len(fields), len(own), u32(kind.max_value, "max_value")))
             fields += own
         self._table = [*_library.array_of(_library.CWriterKind, rows), *_library.array_of(_library.CKeyField, fields)]
@@ -83,6 +81,13 @@ class Adapter:
     def outward(self, datagram: Octets) -> Optional[bytes]:
         """What is sent to the network; none where it would be longer than a message may be."""
         return self._turned(_LIBRARY.cw_outward, (), datagram)
+
+
+def key_fields(carries: Carries, fields: Sequence[KeyField]) -> List[_library.CKeyField]:
+    """The key fields of a type, as C has them."""
+    if fields and carries not in (Carries.CDR, Carries.CDR2):
+        raise ValueError(f"{Carries(carries).name} has no key fields")
+    return [_library.CKeyField(u32(place, "a place"), _size(size)) for place, size in fields]
 
 
 def _size(size: int) -> int:

@@ -21,7 +21,7 @@ def _between(low: int, high: int) -> Check:
     return check
 
 
-u8, u24, u32, u64 = (_between(0, (1 << bits) - 1) for bits in (8, 24, 32, 64))
+u8, u16, u24, u32, u64 = (_between(0, (1 << bits) - 1) for bits in (8, 16, 24, 32, 64))
 i32 = _between(-(1 << 31), (1 << 31) - 1)
 
 

@@ -15,6 +15,10 @@ class CPeer(c.Structure):
     _fields_ = [("is_open", c.c_bool), ("held", c.c_void_p)]
 
 
+class CParticipant(c.Structure):
+    _fields_ = CPeer._fields_
+
+
 class CPeerConfig(c.Structure):
     _fields_ = [("prefix", c.c_uint8 * 12)]
 
@@ -55,6 +59,25 @@ class CWriterKind(c.Structure):
     ]
 
 
+class CLocator(c.Structure):
+    _fields_ = [("address", c.c_uint8 * 4), ("port", c.c_uint16)]
+
+
+class CSettings(c.Structure):
+    _fields_ = [
+        *[("prefix", c.c_uint8 * 12), ("address", c.c_uint8 * 4), ("port", c.c_uint16)],
+        *[("domain", c.c_uint32), ("lease", c.c_uint64)],
+    ]
+
+
+class CEndpoint(c.Structure):
+    _fields_ = [
+        *[("topic_name", c.c_uint8 * 256), ("type_name", c.c_uint8 * 256), ("kind", c.c_uint8), ("carries", c.c_uint8)],
+        *[("is_exclusive", c.c_bool), ("is_best_effort", c.c_bool), ("strength", c.c_int32)],
+        *[(name, c.c_uint32) for name in ("first_field", "field_count", "max_value")],
+    ]
+
+
 def array_of(kind: Type[Any], items: Sequence[Any]) -> Tuple[Any, int]:
     """An array, which has an element also where there are none: no pointer is ever null."""
     return (kind * max(len(items), 1))(*items), len(items)
@@ -89,6 +112,19 @@ _ARGUMENTS: Dict[str, List[Any]] = {
 }
 
 
+# These have a participant.
+_OF_PARTICIPANT: Dict[str, List[Any]] = {
+    "open": [it for kind in (CLocator, CEndpoint, CKeyField) for it in (c.POINTER(kind), _SIZE)],
+    **{it: [] for it in ("close", "leave", "is_behind")},
+    **{"hear": [_U64, _OCTETS, _OCTETS, _SIZE], "tick": [_U64], "line": [_OCTETS, _SIZE]},
+    **{"write": [_U8, _OCTETS, _OCTETS, _SIZE], **{it: [_U8, _OCTETS] for it in ("register", "dispose", "unregister")}},
+    **{it: [_U8, _I32, *_MASKS] for it in ("read", "take")},
+    **{"datagram": [_SIZE, _INTO, _INTO, _INTO, _SIZE, _INTO], "sample": [_SIZE, _INTO, _INTO, _SIZE, _INTO]},
+    **{"told": [_SIZE, _INTO], "presence": [_SIZE, _INTO], "text": [_INTO, _SIZE, _INTO]},
+}
+_OF_PARTICIPANT["open"].insert(0, c.POINTER(CSettings))
+
+
 _SENTENCE = [_INTO, _SIZE, c.POINTER(_SIZE)]
 _TABLE = [c.POINTER(CWriterKind), _SIZE, c.POINTER(CKeyField), _SIZE]
 # These have none.
@@ -110,12 +146,13 @@ def _load() -> c.PyDLL:
         where = f"It is looked for where CINCHWALNUT says, at {BESIDE}, and where the loader looks; tools/library builds it"
         raise ImportError(f"{NAME} does not load: {error}. {where}") from error
     of_peer = {call: [c.POINTER(CPeer), *arguments] for call, arguments in _ARGUMENTS.items()}
-    for call, arguments in {**of_peer, **_WITHOUT_PEER}.items():
+    of_participant = {f"participant_{call}": [c.POINTER(CParticipant), *arguments] for call, arguments in _OF_PARTICIPANT.items()}
+    for call, arguments in {**of_peer, **of_participant, **_WITHOUT_PEER}.items():
         if not hasattr(library, f"cw_{call}"):
             raise ImportError(f"{name} is of another version: it has no cw_{call}")
         function = getattr(library, f"cw_{call}")
         function.argtypes = arguments
-        function.restype = {"close": None, "unsent": _U64}.get(call, _U8)
+        function.restype = {"close": None, "participant_close": None, "unsent": _U64}.get(call, _U8)
     return library
 
 

@@ -3,46 +3,26 @@ from __future__ import annotations
 
 import ctypes as c
 import struct
-import threading
 from typing import Any, Callable, List, NamedTuple, Optional, Sequence, Tuple, Type, TypeVar
 
 from . import _library
 from ._causes import cause, own_of, own_of_text
 from ._checks import Octets, i32, key_of, octets, octets_of, truth, u8, u32, u64
-from ._codes import ANY, Code, EntityKind, InstanceState, PreconditionNotMet, SampleState, Status, ViewState, refused
+from ._codes import ANY, Code, EntityKind, PreconditionNotMet, Status, refused
 from ._config import ReaderConfig, WriterConfig
 from ._faults import arrays, fault_in, line_fault, text_fault
+from ._holding import Holds, Sample
 
 _LIBRARY = _library.LIBRARY
 SECOND = 1 << 32
-_BUFFER = 1 << 16
 _RECORDED_VALUE = 65_001  # octets of a value that stand in a line: one more than any that is taken
-_NO_DATA, _OUT_OF_RESOURCES = int(Code.NO_DATA), int(Code.OUT_OF_RESOURCES)
+_NO_DATA = int(Code.NO_DATA)
 _Peer = TypeVar("_Peer", bound="Peer")
-_Item = TypeVar("_Item")
 
 
 def ms(milliseconds: float) -> int:
     """Milliseconds in units of 2^-32 second, as ticks and leases have them."""
     return int(milliseconds * SECOND / 1000)
-
-
-class SampleInfo(NamedTuple):
-    """DDS 1.4, 2.2.2.5 (SampleInfo), with the key of the sample; the timestamp is in units of 2^-32 second."""
-
-    key: bytes
-    source_timestamp: int
-    instance_handle: int
-    publication_handle: int
-    disposed_generation_count: int
-    no_writers_generation_count: int
-    sample_rank: int
-    generation_rank: int
-    absolute_generation_rank: int
-    sample_state: SampleState
-    view_state: ViewState
-    instance_state: InstanceState
-    valid_data: bool
 
 
 class TotalStatus(NamedTuple):
@@ -101,19 +81,14 @@ class NoticeInfo(NamedTuple):
 
 
 Packet = Tuple[int, bytes]  # the number of the peer that it is for, and its octets
-Sample = Tuple[SampleInfo, bytes]
-
 # As the structs of the header lie in memory.
-_INFO, _NOTICE = struct.Struct("=16s8Q3I?3x"), struct.Struct("=BB2xI2Q4iQ2Q2qIB3x")
+_NOTICE = struct.Struct("=BB2xI2Q4iQ2Q2qIB3x")
 _TOTAL, _CHANGED, _MATCHED = struct.Struct("=2Q"), struct.Struct("=4iQ"), struct.Struct("=2Q2qIB3x")
 _OBSERVED = struct.Struct("=3Q")
 _NUMBER, _HANDLE, _KEY = struct.Struct("=I"), struct.Struct("=Q"), struct.Struct("=16s")
-_SAMPLE_STATES = {int(it): it for it in SampleState}
-_VIEW_STATES = {int(it): it for it in ViewState}
-_INSTANCE_STATES = {int(it): it for it in InstanceState}
 
 
-class Peer:
+class Peer(Holds):
     """A peer of a configuration: the prefixes of its peers, its writers and its readers, and its own number.
 
     Peers are numbered from 1 in their order, and so are the writers of a peer, and its readers. A key has 16 octets, and a value
@@ -141,30 +116,9 @@ class Peer:
         return self
 
     def _begin(self) -> None:
-        self._lock, self._peer = threading.RLock(), _library.CPeer(False, None)
-        self._at = c.byref(self._peer)
-        self._make_buffer(_BUFFER)
-        self._needed, self._to, self._value = c.c_size_t(0), c.c_uint32(0), c.create_string_buffer(_INFO.size)
-        self._value_at, self._to_at, self._needed_at = c.addressof(self._value), c.addressof(self._to), c.addressof(self._needed)
-
-    def close(self) -> None:
-        """Frees what the peer holds; each call then raises PreconditionNotMet. Once more, it does nothing."""
-        with self._lock:
-            _LIBRARY.cw_close(self._at)
-
-    def __enter__(self: _Peer) -> _Peer:
-        return self
-
-    def __exit__(self, *_: object) -> None:
-        self.close()
-
-    def __del__(self) -> None:
-        if hasattr(self, "_needed_at"):
-            self.close()
-
-    @property
-    def is_open(self) -> bool:
-        return bool(self._peer.is_open)
+        self._to = c.c_uint32(0)
+        self._to_at = c.addressof(self._to)
+        self._hold(_library.CPeer(False, None), _LIBRARY.cw_close)
 
     def _happens(self, line: Callable[[], str], call: Any, *arguments: Any) -> int:
         """The code of an event, by its call. What it is in a line of docs/PIPE.md is asked for where it is recorded."""
@@ -475,11 +429,7 @@ class Peer:
         return self._one(self._sample, at, "sample")
 
     def _sample(self, at: int) -> Optional[Sample]:
-        value = self._copied(_LIBRARY.cw_sample, at, self._value_at)
-        if value is None:
-            return None
-        *plain, sample, view, instance, valid = _INFO.unpack_from(self._value)
-        return SampleInfo._make((*plain, _SAMPLE_STATES[sample], _VIEW_STATES[view], _INSTANCE_STATES[instance], valid)), value
+        return self._sampled(_LIBRARY.cw_sample, at)
 
     def notices(self) -> List[NoticeInfo]:
         """What the recorder kept that was set anew or cleared last, the oldest first."""
@@ -524,7 +474,7 @@ class Peer:
     def unsent(self) -> int:
         """How many packets found no memory, as if they were lost."""
         with self._lock:
-            if not self._peer.is_open:
+            if not self.is_open:
                 raise self._refused(Code.PRECONDITION_NOT_MET)
             return int(_LIBRARY.cw_unsent(self._at))
 
@@ -532,51 +482,6 @@ class Peer:
         """The reply in words, as docs/PIPE.md has them."""
         with self._lock:
             return self._there(self._copied(_LIBRARY.cw_text), "text").decode().rstrip("\n")
-
-    def _each(self, fetch: Callable[[int], Optional[_Item]]) -> List[_Item]:
-        got: List[_Item] = []
-        with self._lock:
-            while True:
-                item = fetch(len(got))
-                if item is None:
-                    return got
-                got.append(item)
-
-    def _one(self, fetch: Callable[[int], Optional[_Item]], at: int, what: str) -> _Item:
-        with self._lock:
-            return self._there(fetch(u64(at, "at")), f"{what} {at}")
-
-    @staticmethod
-    def _there(item: Optional[_Item], what: str) -> _Item:
-        if item is None:
-            raise refused(Code.NO_DATA, f"there is no {what} to fetch")
-        return item
-
-    def _copied(self, fetch: Any, *arguments: Any) -> Optional[bytes]:
-        """The octets that a fetch copies into the buffer, which grows where it is too short; none where there are none."""
-        code = fetch(self._at, *arguments, self._buffer_at, self._room, self._needed_at)
-        if code == 0:
-            return c.string_at(self._buffer_at, self._needed.value)
-        if code == _NO_DATA:
-            return None
-        if code != _OUT_OF_RESOURCES:
-            raise self._refused(code)
-        self._make_buffer(self._needed.value)
-        return self._copied(fetch, *arguments)
-
-    def _fetched(self, shape: struct.Struct, fetch: Any, *arguments: Any) -> Optional[Tuple[Any, ...]]:
-        """A value that a fetch writes; none where there is none."""
-        with self._lock:
-            code = fetch(self._at, *arguments, self._value_at)
-            if code == 0:
-                return shape.unpack_from(self._value)
-            if code == _NO_DATA:
-                return None
-            raise self._refused(code)
-
-    def _make_buffer(self, room: int) -> None:
-        self._buffer, self._room = c.create_string_buffer(room), room
-        self._buffer_at = c.addressof(self._buffer)
 
 
 def _named(end: End, kind: str) -> End:

@@ -1,12 +1,15 @@
 pub mod Adapting
+pub mod Announcing
 pub mod Answering
 pub mod Asking
 pub mod Far
 pub mod Faults
 pub mod Fetching
 pub mod Held
+pub mod HeldMember
 pub mod Meaning
 pub mod Observing
 pub mod Opening
+pub mod Partaking
 pub mod Sums
 pub mod Watching

@@ -80,7 +80,7 @@ fn is_field(field: &FlatKeyField) -> bool
 }
 
 /// Whether a kind is one, and its fields stand among so many.
-fn is_kind(count: usize, kind: &FlatKind) -> bool
+pub(crate) fn is_kind(count: usize, kind: &FlatKind) -> bool
     ensures { result ≡ is_kind count kind.now }
 {
     match kind.kind {
@@ -92,7 +92,8 @@ fn is_kind(count: usize, kind: &FlatKind) -> bool
     }
 }
 
-fn has_no_field(fields: &[FlatKeyField]) -> bool
+/// Whether a field is none.
+pub(crate) fn has_no_field(fields: &[FlatKeyField]) -> bool
     ensures { result ≡ list_any (λ f. not (is_field f)) fields.now }
 {
     fields.iter().any(|field| !is_field(field))
@@ -111,7 +112,11 @@ fn is_no_table(fields: &[FlatKeyField], kinds: &[FlatKind]) -> bool
     has_no_field(fields) || has_no_kind(fields.len(), kinds)
 }
 
-fn key_fields(alloc: Global, fields: &[FlatKeyField]) -> Result<Vec<KeyField>, AllocError>
+/// Fields, as the adapter knows them.
+pub(crate) fn key_fields(
+    alloc: Global,
+    fields: &[FlatKeyField],
+) -> Result<Vec<KeyField>, AllocError>
     ensures { IfOk result (λ made. made.items ≡ map field_of fields.now) }
 {
     let mut made = Vec::new(alloc);
@@ -122,7 +127,7 @@ fn key_fields(alloc: Global, fields: &[FlatKeyField]) -> Result<Vec<KeyField>, A
 }
 
 /// The fields of a kind.
-fn fields_at<'a>(fields: &'a [KeyField], kind: &FlatKind) -> &'a [KeyField]
+pub(crate) fn fields_at<'a>(fields: &'a [KeyField], kind: &FlatKind) -> &'a [KeyField]
     ensures { result.now ≡ fields_at fields.now kind.now }
 {
     let first = (kind.first_field as usize).min(fields.len());

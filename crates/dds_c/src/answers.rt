@@ -17,7 +17,7 @@ use dds_protocol::Packet;
 use std::alloc::Global;
 
 /// What a fetch answers where there is nothing of the kind.
-const NOTHING: Code = Code::NoData;
+pub(crate) const NOTHING: Code = Code::NoData;
 
 fn packet_out(
     packets: &[Packet],
@@ -69,7 +69,8 @@ pub extern "C" fn cw_packet(
     code
 }
 
-fn sample_out(
+/// Writes what is said of a sample of a reply, and copies its value.
+pub(crate) fn sample_out(
     reply: &Reply,
     at: usize,
     info: &mut FlatInfo,

@@ -127,7 +127,8 @@ pub fn max_value(most: u32) -> u32
     if most == 0 { USUAL_VALUE } else { most }
 }
 
-fn ownership(is_exclusive: bool) -> OwnershipQos
+/// An OWNERSHIP.
+pub fn ownership(is_exclusive: bool) -> OwnershipQos
     ensures { result ≡ ownership_of is_exclusive }
 {
     if is_exclusive {

@@ -13,10 +13,12 @@ use crate::out::copy_out;
 use crate::peer::Peer;
 use crate::session::Session;
 use dds_base::{Code, Config, Moment};
+use dds_machine::{Call, Reply};
 use dds_protocol::Event;
 use dds_script::{
-    Setup, SetupLine, TranscriptLine, call_of, entity_id, event_cause, guid_prefix, reader_number,
-    reader_options, setup_cause, units, value, words_of, words_or_cause, writer_options,
+    Setup, SetupLine, Side, TranscriptLine, call_of, entity_id, event_cause, guid_prefix,
+    reader_number, reader_options, setup_cause, units, value, words_of, words_or_cause,
+    writer_options,
 };
 use std::alloc::{AllocError, Global};
 
@@ -78,6 +80,18 @@ fn event_of_words(alloc: Global, words: &[&str]) -> Result<Option<Event>, AllocE
             Some(reader) => Ok(Some(Event::Resume { reader })),
             None => Ok(None),
         },
+        _ => Ok(None),
+    }
+}
+
+/// The call that a line names; none where it names none.
+pub(crate) fn call_of_line(alloc: Global, line: &[u8]) -> Result<Option<Call>, AllocError> {
+    let Ok(line) = str::from_utf8(line) else {
+        return Ok(None);
+    };
+    let words = words_of(alloc, line)?;
+    match words.as_slice() {
+        ["call", operands @ ..] => call_of(alloc, operands),
         _ => Ok(None),
     }
 }
@@ -213,17 +227,24 @@ pub extern "C" fn cw_line(alloc: Global, peer: &mut Peer, line: &[u8]) -> u8
     }
 }
 
-fn reply_text(alloc: Global, session: &Session) -> Result<String, AllocError> {
+/// A reply in words, and how many packets found no memory.
+pub(crate) fn text_of_reply(
+    alloc: Global,
+    side: Side,
+    reply: &Reply,
+    unsent: u64,
+) -> Result<String, AllocError> {
     let mut text = TranscriptLine::new(alloc);
-    text.push_reply(session.side, &session.last.reply);
-    text.push_unsent(session.last.unsent);
+    text.push_reply(side, reply);
+    text.push_unsent(unsent);
     text.finish()
 }
 
 fn text_out(alloc: Global, session: &Session, buffer: &mut [u8], needed: &mut usize) -> u8
     ensures written { TextWritten buffer.old buffer.new needed.old needed.new result }
 {
-    match reply_text(alloc, session) {
+    let last = &session.last;
+    match text_of_reply(alloc, session.side, &last.reply, last.unsent) {
         Ok(text) => copy_out(text.as_bytes(), buffer, needed),
         Err(_) => Code::Memory.number(),
     }

@@ -27,7 +27,7 @@ use dds_protocol::Event;
 use std::alloc::Global;
 
 /// The masks of these bits.
-fn masks(samples: u32, views: u32, instances: u32) -> Masks
+pub(crate) fn masks(samples: u32, views: u32, instances: u32) -> Masks
     ensures { result ≡ masks_of samples views instances }
 {
     Masks {
@@ -38,7 +38,7 @@ fn masks(samples: u32, views: u32, instances: u32) -> Masks
 }
 
 /// Samples of any instance.
-fn any(max: i32, masks: Masks) -> Selection
+pub(crate) fn any(max: i32, masks: Masks) -> Selection
     ensures { result ≡ Selection.Any max masks }
 {
     Selection::Any { max, masks }
