@@ -261,9 +261,11 @@ static void exchange(const char *domain, bool is_reliable, const char *changes) 
     dds_qset_writer_data_lifecycle(qos, false);
     dds_qset_data_representation(qos, 1, &representation);
     dds_listener_t *listener = made_listener(is_asked);
-    dds_entity_t writer = made(dds_create_writer(peer, made_topic(peer, "from_product"), qos, is_asked ? listener : NULL));
+    const bool is_turned = getenv("TURNED_TOPICS") != NULL;
+    const char *from = is_turned ? "to_product" : "from_product", *to = is_turned ? "from_product" : "to_product";
+    dds_entity_t writer = made(dds_create_writer(peer, made_topic(peer, from), qos, is_asked ? listener : NULL));
     dds_qos_t *of_reader = is_reliable ? qos : NULL;
-    dds_entity_t reader = made(dds_create_reader(peer, made_topic(peer, "to_product"), of_reader, listener));
+    dds_entity_t reader = made(dds_create_reader(peer, made_topic(peer, to), of_reader, listener));
     if (is_asked)
         make_those_asked(writer);
     else

@@ -5,6 +5,7 @@
  * its reader has its default policies. It makes the changes that lines of its standard input say, as they come, and prints
  * those that it takes, how many ends each of its own is matched with, and who does not fit: all as cyclone.c does, where the
  * lines are explained. It ends with its standard input. */
+#include <cstdlib>
 #include <cstdio>
 #include <cstring>
 #include <fastcdr/Cdr.h>
@@ -210,8 +211,9 @@ int main(int count, char **words) {
     Type *type = new Type(words[2]);
     TypeSupport support(type);
     support.register_type(peer);
-    auto *from = peer->create_topic("from_product", support.get_type_name(), TOPIC_QOS_DEFAULT);
-    auto *to = peer->create_topic("to_product", support.get_type_name(), TOPIC_QOS_DEFAULT);
+    const bool is_turned = std::getenv("TURNED_TOPICS") != nullptr;
+    auto *from = peer->create_topic(is_turned ? "to_product" : "from_product", support.get_type_name(), TOPIC_QOS_DEFAULT);
+    auto *to = peer->create_topic(is_turned ? "from_product" : "to_product", support.get_type_name(), TOPIC_QOS_DEFAULT);
     DataWriterQos offered = DATAWRITER_QOS_DEFAULT;
     offered.history().kind = KEEP_ALL_HISTORY_QOS;
     offered.writer_data_lifecycle().autodispose_unregistered_instances = false;
