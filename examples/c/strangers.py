@@ -56,7 +56,7 @@ with Participant([data_writer(*READING, fields=KEYS)], bytes([0, 0, 1] + [0] * 9
         network.send(now, READER[0], reader.tick(now))
         if 20 < tenth <= 20 + COUNT:
             value = (tenth - 20).to_bytes(4, "little")
-            network.send(now, WRITER[0], writer.write(1, bytes([0, 1, 0, 0, 7, 0, 0, 0]) + value, bytes([0, 0, 0, 7] + [0] * 12)))
+            network.send(now, WRITER[0], writer.write(1, bytes([0, 1, 0, 0, 7, 0, 0, 0]) + value))
         taken += [int.from_bytes(value[8:12], "little") for info, value in reader.take(1) if info.valid_data]
     print("each came once, in its order:", taken == list(range(1, COUNT + 1)))
     print("nothing went where nothing came from:", network.sent_to <= network.sources)

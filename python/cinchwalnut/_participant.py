@@ -4,6 +4,7 @@ from __future__ import annotations
 import ctypes as c
 import dataclasses
 import enum
+import hashlib
 import socket
 import struct
 from typing import Any, Callable, Dict, List, NamedTuple, Optional, Sequence, Tuple, Union
@@ -79,6 +80,21 @@ class Endpoint:
         return _library.CEndpoint(first_field=first_field, field_count=len(said.pop("fields")), **said)
 
 
+def _key_in(end: Endpoint, value: bytes) -> Optional[bytes]:
+    """The key of a value, by the key fields of its type: these, big-endian and aligned, with zeros up to sixteen octets, or the
+    MD5 of more (RTPS 2.5, 9.6.4.8); none where the type has no fields, or the value does not have them."""
+    greatest = {Carries.CDR: 8, Carries.CDR2: 4}.get(end.carries)
+    if greatest is None or len(value) < 4:
+        return None
+    body, is_little, key = value[4:], value[1] & 1 != 0, b""
+    for place, size in end.fields:
+        octets_in = body[place : place + size]
+        if len(octets_in) < size:
+            return None
+        key += bytes(-len(key) % min(size, greatest)) + (octets_in[::-1] if is_little else octets_in)
+    return key.ljust(16, b"\0") if len(key) <= 16 else hashlib.md5(key).digest()
+
+
 def data_writer(topic_name: str, type_name: str, carries: Carries = Carries.KEYLESS, **more: Any) -> Endpoint:
     return Endpoint(EntityKind.WRITER, topic_name, type_name, carries, **more)
 
@@ -108,6 +124,7 @@ class Participant(Holds):
     and the fetch of what it gave back are one."""
 
     def __init__(self, ends: Sequence[Endpoint], prefix: Octets, address: Address, told: Sequence[Address], domain: int = 0, lease: int = 0):
+        self._writers = [it for it in ends if it.kind == EntityKind.WRITER]
         self._to = c.create_string_buffer(_TO.size)
         self._to_at = c.addressof(self._to)
         self._hold(_library.CParticipant(False, None), _LIBRARY.cw_participant_close)
@@ -149,7 +166,7 @@ class Participant(Holds):
         """It says that it leaves, and stays open."""
         return self._sent(_LIBRARY.cw_participant_leave)
 
-    # Calls of a writer, by its number. A key of a type without one is sixteen zeros.
+    # Calls of a writer, by its number. A key has sixteen octets: the key members, big-endian, and zeros.
 
     def _keyed(self, call: Any, number: int, key: Octets) -> List[Datagram]:
         return self._sent(call, u8(number, "number"), key_of(key))
@@ -157,8 +174,14 @@ class Participant(Holds):
     def register(self, number: int, key: Octets) -> List[Datagram]:
         return self._keyed(_LIBRARY.cw_participant_register, number, key)
 
-    def write(self, number: int, value: Octets, key: Octets = bytes(16)) -> List[Datagram]:
+    def write(self, number: int, value: Octets, key: Optional[Octets] = None) -> List[Datagram]:
+        """Writes a value. Its key is found in it by the key fields of the type, and so need not be said; ValueError for another
+        one, by which others would take a wrong value."""
         said = octets(value, "a value")
+        own = _key_in(self._writers[number - 1], bytes(said)) if 0 < number <= len(self._writers) else None
+        if key is not None and own is not None and bytes(key) != own:
+            raise ValueError(f"the key of this value is {own.hex()}, and not {bytes(key).hex()}")
+        key = key if key is not None else own or bytes(16)
         return self._sent(_LIBRARY.cw_participant_write, u8(number, "number"), key_of(key), said, len(said))
 
     def dispose(self, number: int, key: Octets) -> List[Datagram]:
