@@ -1,1 +1,2 @@
 mod Laws
+mod Pieces

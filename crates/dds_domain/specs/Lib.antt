@@ -2,5 +2,6 @@
 pub mod Turns
 pub mod Earliness
 pub mod Opening
+pub mod Fragmented
 pub mod Sharings
 pub mod Participants

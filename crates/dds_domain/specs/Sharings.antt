@@ -1,7 +1,7 @@
 -- Our peer, as datagrams of the network reach it (RTPS 2.5, 8.3.4: the message receiver). What is said here of what it does is by
 -- the steps of dds_exchange, each of which is one of the machine; s becomes r, and a turn t becomes u. Where memory is wanting
 -- what came or goes is lost.
-use Rattle.std.specs.Prelude.{◌≡◌, ◌⊎◌, ℕ, ◌++◌, ◌∷◌, Bool, true, false, List, [], is_some, length, map, slice_get, Option, Some, None}
+use Rattle.std.specs.Prelude.{◌≡◌, ◌⊎◌, ℕ, ◌++◌, ◌∷◌, Bool, true, false, List, [], is_some, length, map, slice_get, Option, Some, None, MatchBool}
 use Rattle.dds_base.specs.declared.config.ReaderConfig.{ReaderConfig}
 use Rattle.dds_base.specs.declared.config.WriterConfig.{WriterConfig}
 use Rattle.dds_base.specs.declared.guid.Guid.{Guid}
@@ -23,6 +23,7 @@ use Rattle.dds_exchange.specs.States.{State as Exchange}
 use Rattle.dds_exchange.specs.Told.{due_of}
 use Rattle.dds_domain.specs.declared.early.Waiting.{Waiting}
 use Rattle.dds_domain.specs.Earliness.{kept, without}
+use Rattle.dds_domain.specs.Fragmented.{HasFragment}
 use Rattle.dds_domain.specs.Opening.{config_of}
 use Rattle.dds_domain.specs.Turns.{MayLack, Sends, State as Turn, lacking}
 
@@ -161,12 +162,14 @@ pub record HearsFragments (rows : List Row) (bytes : List ℕ) (s : State) (t : 
   pub delivers : DeliversAll rows whole taken first after second
   pub asks : Asks rows after second r u
 
--- It comes as it is, or what its fragments make whole does.
+-- It comes as it is; or what its fragments make whole does, where it has some.
 pub record Hears (rows : List Row) (bytes : List ℕ) (s : State) (t : Turn) (r : State) (u : Turn) : Type 0 where
   pub between : State
   pub given : Turn
   pub keeps : KeepsEarly bytes s t between given
-  pub comes : Delivers rows bytes between given r u ⊎ HearsFragments rows bytes between given r u
+  pub has : Bool
+  pub has_fragment : HasFragment bytes has
+  pub comes : MatchBool has (HearsFragments rows bytes between given r u) (Delivers rows bytes between given r u)
 
 -- ---- calls and the time
 

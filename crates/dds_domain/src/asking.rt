@@ -2,6 +2,10 @@
 //!
 //! RTPS 2.5, 8.3.8.3 and 8.3.8.10 (DataFrag, NackFrag), 9.4.5.
 
+ghost use Rattle.std.specs.Prelude.{◌≡◌, ◌==◌};
+ghost use Rattle.rtps_fragments.specs.DataFrag.{id_data_frag};
+ghost use Rattle.dds_domain.specs.Fragmented.{HasFragment, HasOne};
+
 use dds_base::{Endianness, EntityId, Guid, GuidPrefix, Octets, take_octets, take_u16, take_u32};
 use rtps_wire::{begin_message, next_frame};
 use std::alloc::{AllocError, Global};
@@ -30,21 +34,35 @@ pub struct FirstAlone {
     others: u32,
 }
 
-/// Whether a datagram has a fragment.
-pub fn has_fragment(bytes: &[u8]) -> bool {
-    let Some((_, mut left)) = begin_message(bytes) else {
-        return false;
-    };
-    for _ in 0..bytes.len() {
-        let Some((frame, rest)) = next_frame(left) else {
-            break;
-        };
-        if frame.id == ID_DATA_FRAG {
+/// Whether a submessage is a fragment, by its id.
+fn is_fragment(id: u8) -> bool
+    ensures { result ≡ (id == id_data_frag) }
+{
+    id == ID_DATA_FRAG
+}
+
+/// Whether one of the submessages of a body is a fragment.
+fn has_fragment_in(body: &[u8]) -> bool
+    ensures { HasOne body.now result }
+{
+    let mut left = body;
+    while let Some((frame, rest)) = next_frame(left) {
+        if is_fragment(frame.id) {
             return true;
         }
         left = rest;
     }
     false
+}
+
+/// Whether a datagram has a fragment.
+pub fn has_fragment(bytes: &[u8]) -> bool
+    ensures { HasFragment bytes.now result }
+{
+    match begin_message(bytes) {
+        Some((_, body)) => has_fragment_in(body),
+        None => false,
+    }
 }
 
 fn first_in(source: GuidPrefix, flags: u8, body: &[u8]) -> Option<FirstAlone> {
