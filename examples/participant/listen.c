@@ -39,13 +39,13 @@ int main(int count, char **words) {
     for (uint64_t start = cw_udp_now(), now = start, next = start; now - start < 10 * CW_SECOND; now = cw_udp_now()) {
         uint8_t from[4] = {0};
         ssize_t len = cw_udp_receive(&udp, 20, from, datagram, sizeof datagram);
-        if (len >= 0) {
-            cw_participant_hear(&participant, cw_udp_now(), from, datagram, (size_t)len);
-            cw_udp_send_all(&udp, &participant);
-            take_all(&participant);
+        if (len >= 0) { /* a datagram, within 20 milliseconds */
+            cw_participant_hear(&participant, cw_udp_now(), from, datagram, (size_t)len); /* an event */
+            cw_udp_send_all(&udp, &participant); /* what answers it */
+            take_all(&participant); /* a call of reader 1 */
         }
         if (now >= next) {
-            cw_participant_tick(&participant, cw_udp_now());
+            cw_participant_tick(&participant, cw_udp_now()); /* an event: announcements, HEARTBEATs, leases */
             cw_udp_send_all(&udp, &participant);
             next = now + CW_MS(100);
         }

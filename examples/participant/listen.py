@@ -10,11 +10,11 @@ reader = data_reader(topic, type_name, max_value=65000, **kind)
 with Udp(domain=0) as udp, Participant([reader], new_prefix(), udp.address, udp.told) as participant:
     start = due = now()
     while now() - start < 10 * SECOND:
-        if came := udp.receive(0.02):
-            udp.send(participant.hear(now(), *came))
-            for info, value in participant.take(1):
+        if came := udp.receive(0.02):  # a datagram, within 20 milliseconds
+            udp.send(participant.hear(now(), *came))  # an event, and what answers it
+            for info, value in participant.take(1):  # a call of reader 1
                 print(info.instance_state.name.lower(), value.hex(), flush=True)
         if now() >= due:
-            udp.send(participant.tick(now()))
+            udp.send(participant.tick(now()))  # an event: announcements, HEARTBEATs, leases
             due = now() + ms(100)
     udp.send(participant.leave())
