@@ -272,6 +272,7 @@ static void exchange(const char *domain, bool is_reliable, const char *changes) 
         make_all_changes(writer, reader, changes);
     if (!is_reliable)
         dds_sleepfor(LINGERING);
+    made(dds_set_listener(reader, NULL)); /* which could else take from a reader that is gone */
     made(dds_delete(peer));
     dds_delete_listener(listener);
     dds_delete_qos(qos);
