@@ -65,7 +65,7 @@ pub enum Happening {
     Passed { writer: Handle, first: Sn, last: Sn },
     /// A writer asserted its liveliness without a change, which the reader heard at this moment of its peer.
     Heard { writer: Handle, moment: Moment },
-    /// A writer's lease ran out, at this moment of the reader's peer.
+    /// A writer is alive no more, as its lease ran out or its peer left, from this moment of the reader's peer on.
     Died { writer: Handle, moment: Moment },
     /// A writer left: it is matched no more, from this moment of the reader's peer on.
     Left { writer: Handle, moment: Moment },

@@ -161,8 +161,8 @@ pub fn no_handle_is_given_again()
         → is_known q (e ∷ h) i ≡ true → lives_begun q h < handle_of q (e ∷ h) i }
 {}
 
-/// How many changes a reader takes in its life is its policy. By the usual number there is room as by 2^31 - 1, which was
-/// the bound of every reader before there was a policy.
+/// How many changes a reader takes in its life is its policy. The usual number is the greatest that a count of samples
+/// has, 2^31 - 1.
 pub fn a_life_is_as_long_as_its_policy()
     // A reader of the usual number has room exactly where fewer than 2^31 - 1 changes came and the other limits hold.
     ensures usual { (q : ReaderQos) (h : List Happening) (e : Happening)

@@ -245,7 +245,7 @@ fn turn_by(
 /// topic carries another type stands in a datum, as its value, with the key that the rule finds; all else stays as it is.
 /// With gaps a GAP stands in place of the number of a DATA of another type than the datum whose payload the peer could not
 /// read, and of a DATA_FRAG of a writer of the table. It is copied to the start of the buffer, and `needed` says how many
-/// octets it has, at most 65,535.
+/// octets it has, at most 65,507.
 ///
 /// # Errors
 ///

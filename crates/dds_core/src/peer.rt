@@ -30,8 +30,8 @@ use std::marker::Model;
 ///
 /// It asks for memory where a call, a change or a sample needs it, and keeps it for what comes later. A writer lets the
 /// changes go that its history need not keep, a reader the samples that were taken and, now and then, those that are no
-/// longer present; what a reader knows of an instance stays. A call costs what its writer or reader does; a delivery
-/// looks at each of the peer's readers once for each DATA.
+/// longer present; what a reader knows of an instance stays, and its place at each writer that it ever knew. A call costs
+/// what its writer or reader does; a delivery looks at each of the peer's readers once for each DATA.
 #[derive(Drop)]
 pub struct Peer {
     pub(crate) alloc: Global,

@@ -16,7 +16,7 @@ use Rattle.dds_ends.specs.declared.reader_told.Ready.{Ready}
 use Rattle.dds_ends.specs.declared.reader_told.Told.{Told}
 use Rattle.dds_ends.specs.declared.reader_told.Told.TheVariants as told
 use Rattle.dds_ends.specs.Kept.{ReaderKept}
-use Rattle.dds_ends.specs.Readiness.{TakesTold, TellsSo}
+use Rattle.dds_ends.specs.Readiness.{HasMemory, TakesTold, TellsSo}
 use Rattle.dds_ends.specs.Storing.{Holds}
 
 -- what was answered was done
@@ -144,3 +144,7 @@ beat_told {inside} {new = new} view ready moment result step seen is ok accepted
     (λ e. done_as result step (λ s. AcceptedAlone inside new ready seen moment s) ok accepted t h knows holds e)
     (λ e. rests inside new ready seen result step ok repeated t h knows holds e)) others
     (done_as result step (λ s. StandsSo inside new ready s) ok how) others_how)
+
+-- memory that was made for a writer is there, as the reader is seen
+pub room_here : {inside view : ReaderKept} (row : ℕ) → inside ≡ view → HasMemory view row → HasMemory inside row
+room_here row is room = subst (λ (k : ReaderKept). HasMemory k row) (sym is) room

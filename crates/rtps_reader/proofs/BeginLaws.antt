@@ -1,32 +1,29 @@
 -- How the place of a reader that waits begins: from there it goes on as one that stood there, whatever was known of the
 -- numbers below.
-use Rattle.std.proofs.Common.{◌≡◌, ℕ, ◌<◌, ◌≤◌, ◌+◌, Bool, true, false, ◌&&◌, List, [], ◌∷◌, inl, inr, refl, sym, ap, ◌∙◌, subst, arith}
-use Rattle.std.specs.Prelude.{◌⊎◌, ℤ, Option, None, Some, max, nat_le, nat_lt, Result, Ok, Err, IfOk}
+use Rattle.std.proofs.Common.{◌≡◌, ℕ, ◌<◌, ◌≤◌, Bool, true, false, ◌&&◌, List, [], ◌∷◌, inl, inr, refl, sym, ap, ◌∙◌, subst, arith}
+use Rattle.std.specs.Prelude.{ℤ, Option, None, Some, max, nat_le, Result, Ok, Err, IfOk}
 use Rattle.std.proofs.lemmas.Bool.{le-leb, lt-leb}
 use Rattle.dds_base.specs.declared.change.Change.{Change}
 use Rattle.dds_base.specs.declared.happening.Arrival.{Arrival}
 use Rattle.dds_base.specs.declared.happening.Happening.{Happening}
-use Rattle.dds_base.specs.declared.happening.Happening.TheVariants.{Came}
 use Rattle.dds_base.specs.declared.happening.PassedRun.{PassedRun}
 use Rattle.dds_base.specs.declared.qos.ReaderQos.{ReaderQos}
 use Rattle.dds_base.specs.Counts.{is_later}
-use Rattle.dds_base.specs.Presence.{has_room}
-use Rattle.dds_base.specs.Places.{Match, PlaceWith, coming, Comes, AllCome, ComeTo, Passes, MayPassOver, GoesTo}
+use Rattle.dds_base.specs.Places.{Match, PlaceWith, coming, Comes, AllCome, ComeTo, MayPassOver, GoesTo}
 use Rattle.rtps_reader.specs.declared.attachment.Attachment.{Attachment}
-use Rattle.rtps_reader.specs.declared.attachment.Attachment.TheVariants.{Away, Waiting, Begun}
+use Rattle.rtps_reader.specs.declared.attachment.Attachment.TheVariants.{Waiting, Begun}
 use Rattle.rtps_reader.specs.declared.step.HeartbeatSeen.{HeartbeatSeen}
 use Rattle.rtps_reader.specs.declared.step.Step.{Step}
 use Rattle.rtps_reader.specs.declared.writer_proxy.Source.{Source}
-use Rattle.rtps_reader.specs.Tracked.{Tracked, SameTracked, is_passable, is_passable_slot, with_heartbeat}
-use Rattle.rtps_reader.specs.Advance.{known, Stays, Stops, Advances}
+use Rattle.rtps_reader.specs.Tracked.{Tracked, SameTracked, is_passable, with_heartbeat}
+use Rattle.rtps_reader.specs.Advance.{known, Stays, Advances}
 use Rattle.rtps_reader.specs.Answer.{Accepts, IsIdle, heard_after}
-use Rattle.rtps_reader.specs.Entering.{NoneTakenAhead}
 use Rattle.rtps_reader.specs.Jump.{HasJumped, JumpsIf, comes, jumped_to, run_of}
-use Rattle.rtps_reader.specs.Moving.{HasMoved, HeartbeatMoves, JumpMoves, Moves, match_of}
-use Rattle.rtps_reader.specs.Reader.{MovesOn, JumpsOn, TakesHeartbeat}
-use Rattle.rtps_reader.specs.Attached.{Rests, begun_at, BeginsIf, MeetsNews, MeetsChange, MeetsHeartbeat, MeetsBeat}
-use Rattle.rtps_reader.proofs.JumpLaws.{arriving, comes-no_room, comes-now}
-use Rattle.rtps_reader.proofs.MoveLaws.{same_is, stays_on}
+use Rattle.rtps_reader.specs.Moving.{HasMoved, HeartbeatMoves, JumpMoves, match_of}
+use Rattle.rtps_reader.specs.Reader.{JumpsOn, TakesHeartbeat}
+use Rattle.rtps_reader.specs.Attached.{begun_at, BeginsIf, MeetsChange}
+use Rattle.rtps_reader.proofs.JumpLaws.{arriving}
+use Rattle.rtps_reader.proofs.MoveLaws.{stays_on}
 use Rattle.rtps_reader.proofs.ReaderLaws.{same_back, same_self}
 
 -- ---- a way goes by what is known from the place on

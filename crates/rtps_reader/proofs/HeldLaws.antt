@@ -1,11 +1,11 @@
 -- The changes that are held, each at its place, and how many they are.
-use Rattle.std.proofs.Common.{◌≡◌, ℕ, zero, suc, Bool, ◌<◌, ◌+◌, ◌-◌, ◌%◌, true, false, cond, eqb, List, length, get_or, set, replicate, Option, None, Some, is_some, refl, inl, inr, sym, ap, ◌∙◌, arith, length-set, get_or-set_same, get_or-set_other}
-use Rattle.std.specs.Prelude.{◌⊎◌}
+use Rattle.std.proofs.Common.{◌≡◌, ℕ, zero, suc, Bool, ◌<◌, ◌+◌, ◌-◌, ◌%◌, true, false, cond, eqb, List, length, get_or, set, replicate, Option, None, Some, is_some, refl, inl, inr, sym, ap, ◌∙◌, subst, arith, length-set, get_or-set_same, get_or-set_other}
+use Rattle.std.specs.Prelude.{◌⊎◌, [], IsSome}
 use Rattle.std.proofs.lemmas.Bool.{cases_eq, eq-eqb, ne_eqb}
 use Rattle.std.proofs.lemmas.List.{get_or_read}
 use Rattle.std.proofs.lemmas.List.Sums.{sum_by-cons, sum_by-set}
 use Rattle.dds_base.specs.declared.change.Change.{Change}
-use Rattle.rtps_reader.specs.HeldChanges.{held_at, count_held, ArePlaces}
+use Rattle.rtps_reader.specs.HeldChanges.{held_at, count_held, HasPlaces, ArePlaces}
 
 pub nothing_at : {X : Type 0} (x : X) (n k : ℕ) → get_or (replicate n x) k x ≡ x
 nothing_at x zero k = refl
@@ -73,20 +73,38 @@ each_seen inside view at number n o is width place =
     ∙ ap (λ (places : List (Option Change)). cond (eqb (n % 256) (number % 256)) o (held_at places n)) is
 
 pub are_more : (places : List (Option Change)) (count at number : ℕ) (change : Change) → ArePlaces places count
-    → at ≡ number % 256 → get_or places at None ≡ None → ArePlaces (set places at (Some change)) (count + 1)
-are_more places count at number change are place free =
-    let width = are.width in
+    → length places ≡ 256 → at ≡ number % 256 → get_or places at None ≡ None
+    → ArePlaces (set places at (Some change)) (count + 1)
+are_more places count at number change are width place free =
     let counted = are.counted in
     let more = counted_more places at change (omega (arith, width, place)) free in
-    record { width = length-set places at (Some change) ∙ width; counted = omega (arith, counted, more) }
+    record { width = inr (length-set places at (Some change) ∙ width); counted = omega (arith, counted, more) }
 
 pub are_less : (places : List (Option Change)) (count at number : ℕ) (change : Change) → ArePlaces places count
-    → at ≡ number % 256 → get_or places at None ≡ Some change → ArePlaces (set places at None) (count - 1)
-are_less places count at number change are place found =
-    let width = are.width in
+    → length places ≡ 256 → at ≡ number % 256 → get_or places at None ≡ Some change
+    → ArePlaces (set places at None) (count - 1)
+are_less places count at number change are width place found =
     let counted = are.counted in
     let less = counted_less places at change (omega (arith, width, place)) found in
-    record { width = length-set places at None ∙ width; counted = omega (arith, counted, less) }
+    record { width = inr (length-set places at None ∙ width); counted = omega (arith, counted, less) }
+
+-- where one is held, or there is one place, there are all
+pub all_places : (places view : List (Option Change)) (count number : ℕ) → places ≡ view → ArePlaces places count
+    → IsSome (held_at view number) → length places ≡ 256
+all_places places view count number is are some = by are.width
+  where
+    by : (places ≡ []) ⊎ HasPlaces places → length places ≡ 256
+    by (inl none) = absurd (let e : false ≡ true =
+        subst (λ (ps : List (Option Change)). is_some (held_at ps number) ≡ true) (sym is ∙ none) some in cc)
+    by (inr all) = all
+
+pub all_or_none : (places : List (Option Change)) (count : ℕ) → ArePlaces places count → (length places ≡ 0 → ⊥)
+    → length places ≡ 256
+all_or_none places count are ne = by are.width
+  where
+    by : (places ≡ []) ⊎ HasPlaces places → length places ≡ 256
+    by (inl none) = absurd (ne (ap (λ (ps : List (Option Change)). length ps) none))
+    by (inr all) = all
 
 -- what was read at the place of a number is a change
 pub read_some : (places : List (Option Change)) (at number : ℕ) (read : Option Change) (change : Change)
@@ -122,3 +140,7 @@ empty_already places number n none = by (cases_eq (n % 256) (number % 256))
         ∙ sym (ap (λ (b : Bool). cond b None (held_at places n)) (eq-eqb (n % 256) (number % 256) same)))
     by (inr other) =
         sym (ap (λ (b : Bool). cond b None (held_at places n)) (ne_eqb (n % 256) (number % 256) other))
+
+-- all places, as they are seen
+pub seen_width : (inside view : List (Option Change)) → inside ≡ view → HasPlaces view → length inside ≡ 256
+seen_width inside view is width = ap (λ (ps : List (Option Change)). length ps) is ∙ width

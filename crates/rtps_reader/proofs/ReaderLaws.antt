@@ -18,15 +18,14 @@ use Rattle.rtps_reader.specs.declared.step.Step.{Step}
 use Rattle.rtps_reader.specs.declared.attachment.Attachment.{Attachment}
 use Rattle.rtps_reader.specs.declared.attachment.Attachment.TheVariants.{Away, Waiting, Begun}
 use Rattle.rtps_reader.specs.declared.known_writer.KnownWriter.{KnownWriter}
-use Rattle.rtps_reader.specs.declared.writer_proxy.WriterProxy.{WriterProxy}
 use Rattle.rtps_reader.specs.Tracked.{Tracked, fresh, SameTracked}
 use Rattle.rtps_reader.specs.Jump.{comes}
 use Rattle.rtps_reader.specs.Moving.{match_of}
 use Rattle.rtps_reader.specs.Answer.{IsIdle}
 use Rattle.rtps_reader.specs.declared.writer_proxy.Source.{Source}
-use Rattle.rtps_reader.specs.Proxy.{tracked, IsProxyReady}
+use Rattle.rtps_reader.specs.Proxy.{tracked, IsProxyReady, IsWriterReady, UnlessAway}
 use Rattle.rtps_reader.specs.Sound.{AreSound, IsSound, KeepsHow, ProxyKeepsRest}
-use Rattle.rtps_reader.specs.Reader.{Proxies, Tracks, how_at, how_after, count_of, IsReady, IsReadyAt, AllReady, AllStay, AllStand, OthersStay, OthersStand, match_at}
+use Rattle.rtps_reader.specs.Reader.{Proxies, Tracks, how_at, how_after, count_of, IsReady, IsReadyAt, OthersReady, AllStay, AllStand, OthersStay, OthersStand, match_at}
 use Rattle.rtps_reader.specs.Reader.{JumpsOn, MovesOn, TakesHeartbeat, KeepsRest}
 use Rattle.rtps_reader.specs.Attached.{Rests, begun_at, BeginsIf, MeetsNews, MeetsChange, MeetsHeartbeat, MeetsBeat, StandsNow, HasOneMore}
 use Rattle.rtps_reader.proofs.MoveLaws.{same_is}
@@ -339,17 +338,17 @@ pub same_count : {reader : Proxies} {items : List KnownWriter} {writer : ℕ} {p
 same_count {items = items} {writer} o new = length-set items writer new ∙ ap (λ (r : Proxies). count_of r) o.view
 
 pub ready_of : {reader : Proxies} {items : List KnownWriter} {writer : ℕ} {proxy : KnownWriter}
-    → Opened reader items writer proxy → (spare : ℕ) → IsReadyAt reader writer spare → IsProxyReady proxy.proxy spare
+    → Opened reader items writer proxy → (spare : ℕ) → IsReadyAt reader writer spare → IsWriterReady proxy spare
 ready_of {writer = writer} {proxy} o spare ready = ready proxy
     (ap (λ (r : Proxies). slice_get r.writers writer) (sym o.view) ∙ o.at)
 
 -- a writer is ready where its proxy was made so
 pub ready_set : {T E : Type 0} {reader : Proxies} {items : List KnownWriter} {writer : ℕ} {proxy : KnownWriter}
     → Opened reader items writer proxy → (new : KnownWriter) (spare : ℕ) (r : Result T E)
-    → OnOk r (IsProxyReady new.proxy spare)
+    → OnOk r (IsWriterReady new spare)
     → OnOk r (IsReadyAt (record { writers = slice_set items writer new }) writer spare)
 ready_set {items = items} {writer} {proxy} o new spare (Ok t) ready = λ p is.
-    subst (λ (q : KnownWriter). IsProxyReady q.proxy spare)
+    subst (λ (q : KnownWriter). IsWriterReady q spare)
     (same_Some new p (sym (get-set_same items writer new proxy o.at) ∙ is)) ready
 ready_set o new spare (Err e) ready = tt
 
@@ -374,9 +373,10 @@ pub keeps_all : {S : Type 0} {Stands : S → List Happening → Type 0} {policie
     {answer : Result Step Code}
     → Opened reader items writer proxy → KeepsHow proxy.how new.how answer
     → ProxyKeepsRest Stands policies matched spare proxy.proxy new.proxy before after answer
+    → (IsWriterReady proxy (spare before) → IsOk answer)
     → KeepsRest Stands policies matched spare writer reader
     (record { writers = slice_set items writer new }) before after answer
-keeps_all {reader = reader} {items} {writer} {new = new} {answer = answer} o hows keeps = record {
+keeps_all {reader = reader} {items} {writer} {new = new} {answer = answer} o hows keeps succeeds = record {
   sayable = keeps.sayable;
   others = others_stay o new;
   how = how_all o new answer hows.ok;
@@ -388,7 +388,7 @@ keeps_all {reader = reader} {items} {writer} {new = new} {answer = answer} o how
   err = stays_all o new answer keeps.err;
   err_sink = keeps.err_sink;
   memory = keeps.memory;
-  succeeds = λ ready. keeps.succeeds (ready_of o _ ready);
+  succeeds = λ ready. succeeds (ready_of o _ ready);
 }
 
 pub sound_set : (items : List KnownWriter) (writer : ℕ) (new : KnownWriter) → AreSound items → IsSound new.proxy
@@ -436,15 +436,20 @@ tracks_more items proxy count t len before same index lt = ⊎_elim
     (cases_lt index count)
 
 -- a sink with more memory
-pub ready_more : (p : KnownWriter) (spare more : ℕ) → spare ≤ more → IsProxyReady p.proxy spare → IsProxyReady p.proxy more
-ready_more p spare more le r = record { runs = r.runs; sink = omega (arith, r.sink) }
+pub ready_more : (p : KnownWriter) (spare more : ℕ) → spare ≤ more → IsWriterReady p spare → IsWriterReady p more
+ready_more p spare more le ready = by p.how ready
+  where
+    by : (how : Attachment) → UnlessAway how (IsProxyReady p.proxy spare) → UnlessAway how (IsProxyReady p.proxy more)
+    by Away r = r
+    by Waiting r = record { places = r.places; runs = r.runs; sink = omega (arith, r.sink) }
+    by Begun r = record { places = r.places; runs = r.runs; sink = omega (arith, r.sink) }
 
 -- one more proxy is ready
 pub ready_step : (xs : List KnownWriter) (at : ℕ) (q : KnownWriter) (spare more : ℕ) → spare ≤ more
-    → ((k : ℕ) (p : KnownWriter) → k < at → slice_get xs k ≡ Some p → IsProxyReady p.proxy spare) → IsProxyReady q.proxy more
-    → (k : ℕ) (p : KnownWriter) → k < at + 1 → slice_get (slice_set xs at q) k ≡ Some p → IsProxyReady p.proxy more
+    → ((k : ℕ) (p : KnownWriter) → k < at → slice_get xs k ≡ Some p → IsWriterReady p spare) → IsWriterReady q more
+    → (k : ℕ) (p : KnownWriter) → k < at + 1 → slice_get (slice_set xs at q) k ≡ Some p → IsWriterReady p more
 ready_step xs at q spare more le so_far ready k p below is = ⊎_elim
-    (λ here. subst (λ (r : KnownWriter). IsProxyReady r.proxy more) (sym here.1) ready)
+    (λ here. subst (λ (r : KnownWriter). IsWriterReady r more) (sym here.1) ready)
     (λ other. ready_more p spare more le (so_far k p (let ne = other.0 in omega (arith, ne)) other.1))
     (set_cases xs at q k p is)
 
@@ -462,26 +467,24 @@ tracks_same reader index t u first second =
 -- ---- who is matched
 
 still_ready : {reader : Proxies} {items : List KnownWriter} {writer : ℕ} {proxy : KnownWriter}
-    → Opened reader items writer proxy → (new : KnownWriter) → new.proxy ≡ proxy.proxy
-    → AllReady reader (record { writers = slice_set items writer new })
-still_ready {reader} {items} {writer} {proxy} o new same index spare ready w is = ⊎_elim
-    (λ here. subst (λ (p : WriterProxy). IsProxyReady p spare)
-    (sym same ∙ ap (λ (k : KnownWriter). k.proxy) (sym here.1))
-    (ready proxy (ap (λ (u : Proxies). slice_get u.writers index) (sym o.view)
-    ∙ (ap (λ (k : ℕ). slice_get items k) here.0 ∙ o.at))))
+    → Opened reader items writer proxy → (new : KnownWriter)
+    → OthersReady writer reader (record { writers = slice_set items writer new })
+still_ready {reader} {items} {writer} {proxy} o new index spare ne ready w is = ⊎_elim
+    (λ here. absurd (ne here.0))
     (λ other. ready w (ap (λ (u : Proxies). slice_get u.writers index) (sym o.view) ∙ other.1))
     (set_cases items writer new index w is)
 
 -- the reader stands so to one writer, and nothing else has changed
 pub stands_now : {reader : Proxies} {items : List KnownWriter} {writer : ℕ} {proxy : KnownWriter}
     → Opened reader items writer proxy → (new : KnownWriter) (how : Attachment) → new.how ≡ how
-    → new.proxy ≡ proxy.proxy → StandsNow reader writer how (record { writers = slice_set items writer new })
+    → SameTracked (tracked proxy.proxy) (tracked new.proxy)
+    → StandsNow reader writer how (record { writers = slice_set items writer new })
 stands_now o new how is same = record {
   count = same_count o new;
   here = how_set o new ∙ is;
   others = how_others o new;
-  known = all_stay o new (same_from _ _ (ap (λ (p : WriterProxy). tracked p) same));
-  ready = still_ready o new same;
+  known = all_stay o new same;
+  ready = still_ready o new;
 }
 
 how_last : (items : List KnownWriter) (w : KnownWriter)

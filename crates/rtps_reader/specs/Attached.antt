@@ -14,7 +14,7 @@ use Rattle.rtps_reader.specs.declared.step.Step.{Step}
 use Rattle.rtps_reader.specs.Tracked.{Tracked, fresh, is_waiting}
 use Rattle.rtps_reader.specs.Jump.{comes}
 use Rattle.rtps_reader.specs.Answer.{IsIdle, heard_after}
-use Rattle.rtps_reader.specs.Reader.{Proxies, Tracks, count_of, AllStay, AllReady, how_at, MovesOn, JumpsOn, TakesHeartbeat}
+use Rattle.rtps_reader.specs.Reader.{Proxies, Tracks, count_of, AllStay, OthersReady, how_at, MovesOn, JumpsOn, TakesHeartbeat}
 
 -- nothing was done
 abbrev pub Rests : Tracked → List Happening → Step → (Tracked → Type 0) → (List Happening → Type 0) → Type 0
@@ -93,13 +93,13 @@ MeetsBeat Waiting match t h heartbeat step Knows Stands = HearsAlone match t h h
 MeetsBeat Away match t h heartbeat step Knows Stands = Rests t h step Knows Stands
 
 -- the reader stands so to the writer of this index, and to all others as before; what is known of each, and what it has
--- memory for, is the same
+-- memory for at the others, is the same
 pub record StandsNow (old : Proxies) (writer : ℕ) (how : Attachment) (new : Proxies) : Type 0 where
   pub count : count_of new ≡ count_of old
   pub here : how_at new writer ≡ how
   pub others : (index : ℕ) → index ≢ writer → how_at new index ≡ how_at old index
   pub known : AllStay old new
-  pub ready : AllReady old new
+  pub ready : OthersReady writer old new
 
 -- a writer more, of which nothing was heard, after all that were known, of which the same is known
 pub record HasOneMore (old new : Proxies) : Type 0 where

@@ -20,7 +20,7 @@ use Rattle.rtps_reader.specs.Tracked.{Tracked, SameTracked}
 use Rattle.rtps_reader.specs.Advance.{Advances}
 use Rattle.rtps_reader.specs.Jump.{Jumps}
 use Rattle.rtps_reader.specs.Answer.{Accepts, IsSayable}
-use Rattle.rtps_reader.specs.Proxy.{tracked, IsProxyReady}
+use Rattle.rtps_reader.specs.Proxy.{tracked, IsWriterReady}
 
 -- what a reader keeps; callers see it through Tracks, how_at, count_of, IsReady and IsReadyAt
 pub record Proxies : Type 0 where
@@ -41,15 +41,15 @@ how_at reader index = option_map_or (λ (w : KnownWriter). w.how) (slice_get rea
 -- with a sink of so much spare memory the next submessage of this writer can't fail
 abbrev pub IsReadyAt : Proxies → ℕ → ℕ → Type 0
 IsReadyAt reader writer spare =
-    (w : KnownWriter) → slice_get reader.writers writer ≡ Some w → IsProxyReady w.proxy spare
+    (w : KnownWriter) → slice_get reader.writers writer ≡ Some w → IsWriterReady w spare
 
 -- with a sink of so much spare memory the next submessage, of any of the writers, can't fail
 abbrev pub IsReady : Proxies → ℕ → Type 0
 IsReady reader spare = (index : ℕ) → IsReadyAt reader index spare
 
--- what could not fail for want of memory still can't
-abbrev pub AllReady : Proxies → Proxies → Type 0
-AllReady old new = (index spare : ℕ) → IsReadyAt old index spare → IsReadyAt new index spare
+-- what could not fail for want of memory, at all other writers, still can't
+abbrev pub OthersReady : ℕ → Proxies → Proxies → Type 0
+OthersReady writer old new = (index spare : ℕ) → index ≢ writer → IsReadyAt old index spare → IsReadyAt new index spare
 
 -- it stands to all writers as before
 abbrev pub AllStand : Proxies → Proxies → Type 0

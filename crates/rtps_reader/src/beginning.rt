@@ -12,7 +12,7 @@ ghost use Rattle.rtps_reader.specs.Tracked.{SameTracked};
 ghost use Rattle.rtps_reader.specs.Advance.{Stays};
 ghost use Rattle.rtps_reader.specs.Answer.{IsIdle};
 ghost use Rattle.rtps_reader.specs.Moving.{match_of};
-ghost use Rattle.rtps_reader.specs.HeldChanges.{count_held};
+ghost use Rattle.rtps_reader.specs.HeldChanges.{HasPlaces, count_held};
 ghost use Rattle.rtps_reader.specs.Attached.{MeetsChange, MeetsHeartbeat, MeetsBeat};
 ghost use Rattle.rtps_reader.specs.declared.attachment.Attachment.TheVariants.{Waiting};
 ghost use Rattle.rtps_reader.specs.Proxy.{tracked};
@@ -32,6 +32,7 @@ impl WriterProxy {
         ensures place { window_place self.new.window ≡ max (window_place self.old.window) number }
         ensures stays { Stays (tracked self.old) (tracked self.new) }
         ensures held { count_held self.new.held ≤ count_held self.old.held }
+        ensures places { HasPlaces self.old.held → HasPlaces self.new.held }
         ensures runs { self.new.runs ≡ self.old.runs }
     {
         let place = self.place();

@@ -2,7 +2,7 @@
 //!
 //! RTPS 2.5, 8.4.10 (StatefulReader: matched_writers), 8.4.12.
 
-ghost use Rattle.std.specs.Prelude.{◌≡◌, ℕ, ◌≤◌, List, length, true, false, OnOk, IsOk, IfOk, IfErr};
+ghost use Rattle.std.specs.Prelude.{◌≡◌, ℕ, ◌≤◌, List, [], length, true, false, OnOk, IsOk, IfOk, IfErr};
 ghost use Rattle.dds_base.specs.Bounds.{max_sn};
 ghost use Rattle.dds_base.specs.declared.code.Code.TheVariants.{Memory};
 ghost use Rattle.dds_base.specs.declared.happening.Happening.{Happening};
@@ -12,7 +12,9 @@ ghost use Rattle.rtps_reader.specs.Tracked.{fresh, with_data, with_gap, SameTrac
 ghost use Rattle.rtps_reader.specs.Answer.{IsIdle};
 ghost use Rattle.rtps_reader.specs.Moving.{match_of};
 ghost use Rattle.rtps_reader.specs.Attached.{goes_on, no_news, MeetsNews, MeetsChange, MeetsHeartbeat, MeetsBeat};
-ghost use Rattle.rtps_reader.specs.Proxy.{tracked};
+ghost use Rattle.rtps_reader.specs.HeldChanges.{count_held};
+ghost use Rattle.rtps_reader.specs.Proxy.{tracked, IsWriterReady};
+ghost use Rattle.rtps_reader.specs.declared.attachment.Attachment.TheVariants.{Away};
 ghost use Rattle.rtps_reader.specs.Reader.{how_after};
 ghost use Rattle.rtps_reader.specs.Sound.{IsSound, KeepsHow, ProxyKeepsRest};
 
@@ -35,14 +37,46 @@ pub struct KnownWriter {
 
 impl KnownWriter {
     /// A writer of which nothing was heard, to which the reader stands so.
-    pub fn open(alloc: Global, how: Attachment) -> Result<KnownWriter, Code>
-        ensures sound { IfOk result (λ w. IsSound w.proxy) }
-        ensures tracked { IfOk result (λ w. SameTracked fresh (tracked w.proxy)) }
-        ensures how { IfOk result (λ w. w.how ≡ how) }
+    pub fn open(alloc: Global, how: Attachment) -> KnownWriter
+        ensures sound { IsSound result.proxy }
+        ensures tracked { SameTracked fresh (tracked result.proxy) }
+        ensures how { result.how ≡ how }
+    {
+        KnownWriter {
+            how,
+            proxy: WriterProxy::open(alloc),
+        }
+    }
+
+    /// The reader is matched with the writer no longer. Where no change waits, no memory is kept for one.
+    pub fn leave(&mut self)
+        ensures how { self.new.how ≡ Away }
+        ensures same { SameTracked (tracked self.old.proxy) (tracked self.new.proxy) }
+        ensures sound { IsSound self.old.proxy → IsSound self.new.proxy }
+        ensures gone { count_held self.old.proxy.held ≡ 0 → self.new.proxy.held ≡ [] }
+    {
+        self.how = Attachment::Away;
+        self.proxy.release();
+    }
+
+    /// Makes all memory that the next submessage may take, here and at the sink: none, where it does nothing. It changes
+    /// that alone.
+    pub fn reserve<S: Sink>(&mut self, sink: &mut S) -> Result<(), Code>
+        ensures same { SameTracked (tracked self.old.proxy) (tracked self.new.proxy) }
+        ensures how { self.new.how ≡ self.old.how }
+        ensures sound { IsSound self.old.proxy → IsSound self.new.proxy }
+        ensures stands { (h : List Happening) → S.stands sink.old h → S.stands sink.new h }
+        ensures qos { S.qos sink.new ≡ S.qos sink.old }
+        ensures writers { S.writers sink.new ≡ S.writers sink.old }
+        ensures ok { OnOk result (IsWriterReady self.new (S.spare sink.new)) }
+        ensures spare { S.spare sink.old ≤ S.spare sink.new }
+        ensures succeeds { IsWriterReady self.old (S.spare sink.old) → IsOk result }
         ensures memory { IfErr result (λ code. code ≡ Memory) }
     {
-        let proxy = WriterProxy::open(alloc)?;
-        Ok(KnownWriter { how, proxy })
+        match self.how {
+            Attachment::Begun | Attachment::Waiting => self.proxy.reserve(sink),
+            Attachment::Away => Ok(()),
+        }
     }
 
     /// A change was received, at a reliable reader: where its place has not begun nothing is done.
@@ -64,6 +98,7 @@ impl KnownWriter {
         ensures how { KeepsHow self.old.how self.new.how result }
         ensures keeps { ProxyKeepsRest S.stands S.qos S.writers S.spare
             self.old.proxy self.new.proxy sink.old sink.new result }
+        ensures succeeds { IsWriterReady self.old (S.spare sink.old) → IsOk result }
     {
         match self.how {
             Attachment::Begun => self.proxy.on_data(sink, source, number, change),
@@ -91,6 +126,7 @@ impl KnownWriter {
         ensures how { KeepsHow self.old.how self.new.how result }
         ensures keeps { ProxyKeepsRest S.stands S.qos S.writers S.spare
             self.old.proxy self.new.proxy sink.old sink.new result }
+        ensures succeeds { IsWriterReady self.old (S.spare sink.old) → IsOk result }
     {
         match self.how {
             Attachment::Begun => self.proxy.on_best_effort_data(sink, source, number, change),
@@ -132,6 +168,7 @@ impl KnownWriter {
         ensures how { KeepsHow self.old.how self.new.how result }
         ensures keeps { ProxyKeepsRest S.stands S.qos S.writers S.spare
             self.old.proxy self.new.proxy sink.old sink.new result }
+        ensures succeeds { IsWriterReady self.old (S.spare sink.old) → IsOk result }
     {
         match self.how {
             Attachment::Begun => self.proxy.on_gap(sink, source, start, list),
@@ -152,6 +189,7 @@ impl KnownWriter {
         ensures how { KeepsHow self.old.how self.new.how result }
         ensures keeps { ProxyKeepsRest S.stands S.qos S.writers S.spare
             self.old.proxy self.new.proxy sink.old sink.new result }
+        ensures succeeds { IsWriterReady self.old (S.spare sink.old) → IsOk result }
     {
         match self.how {
             Attachment::Begun => self.proxy.resume(sink, source),
@@ -194,6 +232,7 @@ impl KnownWriter {
         ensures how { KeepsHow self.old.how self.new.how result }
         ensures keeps { ProxyKeepsRest S.stands S.qos S.writers S.spare
             self.old.proxy self.new.proxy sink.old sink.new result }
+        ensures succeeds { IsWriterReady self.old (S.spare sink.old) → IsOk result }
     {
         match self.how {
             Attachment::Begun => self.proxy.on_heartbeat(sink, source, heartbeat),
@@ -228,6 +267,7 @@ impl KnownWriter {
         ensures how { KeepsHow self.old.how self.new.how result }
         ensures keeps { ProxyKeepsRest S.stands S.qos S.writers S.spare
             self.old.proxy self.new.proxy sink.old sink.new result }
+        ensures succeeds { IsWriterReady self.old (S.spare sink.old) → IsOk result }
     {
         match self.how {
             Attachment::Begun => self.proxy.on_heartbeat(sink, source, heartbeat),

@@ -74,8 +74,7 @@ impl StatefulReader {
     {
         let mut known = Vec::new(alloc);
         for _ in 0..writers {
-            let writer = KnownWriter::open(alloc, Attachment::Begun)?;
-            known.push(writer)?;
+            known.push(KnownWriter::open(alloc, Attachment::Begun))?;
         }
         Ok(StatefulReader { writers: known })
     }
@@ -115,7 +114,8 @@ impl StatefulReader {
         self.writers[writer].how = Attachment::Waiting;
     }
 
-    /// The reader is no longer matched with a writer. Its place there stays where it is.
+    /// The reader is no longer matched with a writer. Its place there stays where it is. Memory for changes that wait is let
+    /// go, where none waits.
     ///
     /// RTPS 2.5, 8.4.10 (StatefulReader: matched_writer_remove).
     pub fn detach(&mut self, writer: usize)
@@ -124,7 +124,8 @@ impl StatefulReader {
         // The reader is away, and nothing else changes.
         ensures away { StandsNow self.old writer Away self.new }
     {
-        self.writers[writer].how = Attachment::Away;
+        let known = &mut self.writers[writer];
+        known.leave();
     }
 
     /// The reader is matched with a writer that it never knew: it comes after all others, with the next index, and the
@@ -145,8 +146,8 @@ impl StatefulReader {
         // It is refused for want of memory alone.
         ensures memory { IfErr result (λ code. code ≡ Memory) }
     {
-        let writer = KnownWriter::open(alloc, Attachment::Waiting)?;
-        self.writers.push(writer)?;
+        self.writers
+            .push(KnownWriter::open(alloc, Attachment::Waiting))?;
         Ok(())
     }
 
@@ -211,7 +212,7 @@ impl StatefulReader {
     {
         for at in 0..self.writers.len() {
             let known = &mut self.writers[at];
-            known.proxy.reserve(sink)?;
+            known.reserve(sink)?;
         }
         Ok(())
     }
@@ -245,7 +246,7 @@ impl StatefulReader {
         // It is refused for want of memory alone.
         ensures memory { IfErr result (λ code. code ≡ Memory) }
     {
-        self.writers[writer].proxy.reserve(sink)
+        self.writers[writer].reserve(sink)
     }
 
     /// A change of a writer was received, at a place that has begun: it is held, if its number is one of the window of

@@ -14,7 +14,7 @@ ghost use Rattle.rtps_reader.specs.Tracked.{fresh, is_missing, is_named, is_open
 ghost use Rattle.rtps_reader.specs.Moving.{ArePassable, FindsNoRoom, IsNext, PassesOver, HandsOn, Moves, HeartbeatMoves, JumpMoves, HasMoved, match_of, mark_named, CanMove};
 ghost use Rattle.rtps_reader.specs.Jump.{run_of, passed_from};
 ghost use Rattle.rtps_reader.specs.Advance.{Stays};
-ghost use Rattle.rtps_reader.specs.HeldChanges.{count_held};
+ghost use Rattle.rtps_reader.specs.HeldChanges.{HasPlaces, count_held};
 ghost use Rattle.rtps_reader.specs.Proxy.{tracked, IsProxyReady};
 ghost use Rattle.rtps_reader.specs.Sound.{IsSound, ProxyKeepsRest};
 ghost use Rattle.rtps_reader.specs.Answer.{AnswersHeartbeat, IsIdle, IsSayable, answered, heard_after};
@@ -164,22 +164,20 @@ pub fn arrival_of(source: &Source, number: Sn, change: Change) -> Arrival
 }
 
 impl WriterProxy {
-    /// Of a writer of which nothing was heard. Makes all the room that its held changes will take.
-    pub fn open(alloc: Global) -> Result<WriterProxy, Code>
-        ensures sound { IfOk result IsSound }
-        ensures tracked { IfOk result (λ proxy. SameTracked fresh (tracked proxy)) }
-        ensures memory { IfErr result (λ code. code ≡ Memory) }
+    /// Of a writer of which nothing was heard.
+    pub fn open(alloc: Global) -> WriterProxy
+        ensures sound { IsSound result }
+        ensures tracked { SameTracked fresh (tracked result) }
     {
-        let held = HeldChanges::open(alloc)?;
-        Ok(WriterProxy {
+        WriterProxy {
             alloc,
             window: Window::open(alloc),
-            held,
+            held: HeldChanges::open(alloc),
             first: 0,
             count: None,
             acknacks: 0,
             runs: Vec::new(alloc),
-        })
+        }
     }
 
     /// The number of the next change.
@@ -237,6 +235,29 @@ impl WriterProxy {
         !(self.is_missing(place) && self.first <= place)
     }
 
+    /// Makes room for the changes that wait, if there is none.
+    fn make_places(&mut self) -> Result<(), Code>
+        ensures same { SameTracked (tracked self.old) (tracked self.new) }
+        ensures sound { IsSound self.old → IsSound self.new }
+        ensures runs { self.new.runs ≡ self.old.runs }
+        ensures count { count_held self.new.held ≡ count_held self.old.held }
+        ensures places { OnOk result (HasPlaces self.new.held) }
+        ensures succeeds { HasPlaces self.old.held → IsOk result }
+        ensures memory { IfErr result (λ code. code ≡ Memory) }
+    {
+        self.held.reserve(self.alloc)?;
+        Ok(())
+    }
+
+    /// Lets go of that room, where no change waits.
+    pub fn release(&mut self)
+        ensures same { SameTracked (tracked self.old) (tracked self.new) }
+        ensures sound { IsSound self.old → IsSound self.new }
+        ensures gone { count_held self.old.held ≡ 0 → self.new.held ≡ [] }
+    {
+        self.held.release(self.alloc);
+    }
+
     /// Makes all memory that the next submessage may take, here and at the sink. It changes that alone.
     pub fn reserve<S: Sink>(&mut self, sink: &mut S) -> Result<(), Code>
         ensures same { SameTracked (tracked self.old) (tracked self.new) }
@@ -249,6 +270,7 @@ impl WriterProxy {
         ensures succeeds { IsProxyReady self.old (S.spare sink.old) → IsOk result }
         ensures memory { IfErr result (λ code. code ≡ Memory) }
     {
+        self.make_places()?;
         let waiting = usize::min(self.held.count(), MAX_MOVES - 1) + 1;
         self.runs.clear();
         self.runs.reserve(waiting + 1)?;
@@ -383,6 +405,7 @@ impl WriterProxy {
     fn hold(&mut self, number: Sn, change: Change)
         requires sound { IsSound self.old }
         requires small { number ≤ max_sn }
+        requires places { HasPlaces self.old.held }
         ensures sound { IsSound self.new }
         ensures holds { SameTracked (with_data number change (tracked self.old)) (tracked self.new) }
         ensures held { count_held self.new.held ≤ count_held self.old.held + 1 }
@@ -513,6 +536,7 @@ impl WriterProxy {
         requires matched { IsAmong (S.writers sink.old) source.now.publication }
         requires next { IsNext (tracked self.old) number }
         requires small { number ≤ max_sn }
+        requires places { HasPlaces self.old.held }
         requires spare { 1 ≤ S.spare sink.old }
         ensures sound { IsSound self.new }
         ensures quiet { (result.heard ≡ false) × (result.acknack ≡ None) × (result.begun ≡ None) }
@@ -586,6 +610,7 @@ impl WriterProxy {
         ensures place { window_place self.new.window ≡ to }
         ensures stays { Stays (tracked self.old) (tracked self.new) }
         ensures held { count_held self.new.held ≤ count_held self.old.held }
+        ensures places { HasPlaces self.old.held → HasPlaces self.new.held }
         ensures runs { self.new.runs ≡ self.old.runs }
     {
         forget_below(&mut self.held, self.window.place().number(), to.number());

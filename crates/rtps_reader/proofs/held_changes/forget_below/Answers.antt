@@ -16,9 +16,13 @@ loop-number-preserved c =
           (c.forget.ensures.each n
           ∙ ap (λ (k : ℕ). cond (eqb (n % 256) (k % 256)) None (held_at c.loop-number.held n)) c.new.ensures.number);
       count = omega (arith, fewer, so_far);
+      places = λ was. c.forget.ensures.places (c.loop-number.invariant.places was);
     }
 
 pub returns-clause-each : goal.returns-clause-each
 returns-clause-each c = λ n low high.
     let same : nat_lt n c.loop-number.number ≡ nat_lt n c.args.to = grind (arith, nat_tests) in
     c.loop-number.invariant.each n low high ∙ ap (λ (b : Bool). cond b None (held_at c.args.held.now n)) same
+
+pub returns-clause-places : goal.returns-clause-places
+returns-clause-places c = c.loop-number.invariant.places

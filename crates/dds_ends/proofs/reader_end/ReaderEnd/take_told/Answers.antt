@@ -1,7 +1,7 @@
 use Rattle.dds_ends.specs.declared.reader_told.Told.TheVariants as told
 use Rattle.dds_ends.proofs.Fitting.{fits_on}
 use Rattle.dds_ends.proofs.Results.{ok_if}
-use Rattle.dds_ends.proofs.TellingLaws.{answer_told, beat_told, heartbeat_told, nothing_told}
+use Rattle.dds_ends.proofs.TellingLaws.{answer_told, beat_told, heartbeat_told, nothing_told, room_here}
 use Rattle.dds_ends.proofs.reader_end.ReaderEnd.take_told.Goals as goal
 
 pub invariant_of-self : goal.invariant_of-self
@@ -73,3 +73,21 @@ returns-in-Again-clause-told c =
     ok_if c.resume.result
     (λ step ok. answer_told c.self.view_is c.args.ready c.args.moment c.resume.result step told.Again c.in-Again.is ok
     c.resume.ensures.meets keeps.others keeps.how keeps.others_how)
+
+pub returns-in-Change-clause-succeeds : goal.returns-in-Change-clause-succeeds
+returns-in-Change-clause-succeeds c = c.on_data.ensures.keeps.succeeds (room_here c.args.ready.row c.self.view_is c.requires.can.room)
+
+pub returns-in-Jump-clause-succeeds : goal.returns-in-Jump-clause-succeeds
+returns-in-Jump-clause-succeeds c = c.on_best_effort_data.ensures.keeps.succeeds (room_here c.args.ready.row c.self.view_is c.requires.can.room)
+
+pub returns-in-Again-clause-succeeds : goal.returns-in-Again-clause-succeeds
+returns-in-Again-clause-succeeds c = c.resume.ensures.keeps.succeeds (room_here c.args.ready.row c.self.view_is c.requires.can.room)
+
+pub returns-in-Gap-clause-succeeds : goal.returns-in-Gap-clause-succeeds
+returns-in-Gap-clause-succeeds c = c.on_gap.ensures.keeps.succeeds (room_here c.args.ready.row c.self.view_is c.requires.can.room)
+
+pub returns-in-Heartbeat-clause-succeeds : goal.returns-in-Heartbeat-clause-succeeds
+returns-in-Heartbeat-clause-succeeds c = c.on_heartbeat.ensures.keeps.succeeds (room_here c.args.ready.row c.self.view_is c.requires.can.room)
+
+pub returns-in-Beat-clause-succeeds : goal.returns-in-Beat-clause-succeeds
+returns-in-Beat-clause-succeeds c = c.on_best_effort_heartbeat.ensures.keeps.succeeds (room_here c.args.ready.row c.self.view_is c.requires.can.room)

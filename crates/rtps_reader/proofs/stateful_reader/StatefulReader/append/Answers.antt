@@ -7,11 +7,11 @@ use Rattle.rtps_reader.proofs.stateful_reader.StatefulReader.append.Goals as goa
 pub invariant_of-self-2 : goal.invariant_of-self-2
 invariant_of-self-2 c =
     let items = c.in_ok-push.ensures.items in
-    rw items (sound_more c.self.inside.writers.items c.in_ok-writer.writer c.self.invariant c.in_ok-writer.ensures.sound)
+    rw items (sound_more c.self.inside.writers.items c.open.result c.self.invariant c.open.ensures.sound)
 
 pub returns-clause-ok : goal.returns-clause-ok
 returns-clause-ok c =
     let items = c.in_ok-push.ensures.items in
     subst (λ (u : Proxies). HasOneMore u (record { writers = c.push.new.self.items })) c.self.view_is
-    (rw items (one_more c.self.inside.writers.items c.in_ok-writer.writer c.in_ok-writer.ensures.how
-    c.in_ok-writer.ensures.tracked))
+    (rw items (one_more c.self.inside.writers.items c.open.result c.open.ensures.how
+    c.open.ensures.tracked))

@@ -25,3 +25,4 @@ returns-clause-meets g c =
 
 pub returns-clause-keeps : goal.returns-clause-keeps
 returns-clause-keeps g c = keeps_all (here g c) c.on_best_effort_data.ensures.how c.on_best_effort_data.ensures.keeps
+    c.on_best_effort_data.ensures.succeeds

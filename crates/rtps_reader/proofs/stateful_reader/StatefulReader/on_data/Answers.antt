@@ -26,3 +26,4 @@ returns-clause-meets g c =
 
 pub returns-clause-keeps : goal.returns-clause-keeps
 returns-clause-keeps g c = keeps_all (here g c) c.on_data.ensures.how c.on_data.ensures.keeps
+    c.on_data.ensures.succeeds

@@ -26,3 +26,4 @@ returns-clause-meets g c =
 
 pub returns-clause-keeps : goal.returns-clause-keeps
 returns-clause-keeps g c = keeps_all (here g c) c.on_gap.ensures.how c.on_gap.ensures.keeps
+    c.on_gap.ensures.succeeds

@@ -33,3 +33,4 @@ returns-clause-repeated g c =
 
 pub returns-clause-keeps : goal.returns-clause-keeps
 returns-clause-keeps g c = keeps_all (here g c) c.on_heartbeat.ensures.how c.on_heartbeat.ensures.keeps
+    c.on_heartbeat.ensures.succeeds

@@ -14,12 +14,12 @@ loop-preserved c =
     let it = c.loop.invariant in
     let items = c.in_ok-push.ensures.items in
     record {
-      sound = rw items (sound_more c.loop.known.items c.in_ok-writer.writer it.sound c.in_ok-writer.ensures.sound);
+      sound = rw items (sound_more c.loop.known.items c.open.result it.sound c.open.ensures.sound);
       len = rw items (grow_len _ _ _ it.len);
-      fresh = rw items (tracks_more c.loop.known.items c.in_ok-writer.writer c.loop.counter fresh it.len it.fresh
-          (same_back fresh (tracked c.in_ok-writer.writer.proxy) c.in_ok-writer.ensures.tracked));
-      begun = rw items (begun_more c.loop.known.items c.in_ok-writer.writer c.loop.counter it.len it.begun
-          c.in_ok-writer.ensures.how);
+      fresh = rw items (tracks_more c.loop.known.items c.open.result c.loop.counter fresh it.len it.fresh
+          (same_back fresh (tracked c.open.result.proxy) c.open.ensures.tracked));
+      begun = rw items (begun_more c.loop.known.items c.open.result c.loop.counter it.len it.begun
+          c.open.ensures.how);
     }
 
 pub returns-clause-fresh : goal.returns-clause-fresh

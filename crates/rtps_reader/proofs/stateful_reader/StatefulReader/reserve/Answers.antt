@@ -27,7 +27,7 @@ invariant_of-self-in_err-reserve g c =
     let at = at_loop c.args.self.now c.self.inside.writers.items c.loop-at.self-inside.writers.items c.loop-at.at
     c.len-at-end.result _ c.index_mut-known.result.now c.self.view_is c.loop-at.invariant.len
     c.self.inside.writers.ok.0 c.len-at-end.ensures c.loop-at-test.true c.index_mut-known.ensures.value in
-    sound_set c.loop-at.self-inside.writers.items c.loop-at.at (record c.index_mut-known.result.now { proxy = c.reserve.new.self }) c.loop-at.invariant.sound
+    sound_set c.loop-at.self-inside.writers.items c.loop-at.at c.reserve.new.self c.loop-at.invariant.sound
     (c.reserve.ensures.sound (c.loop-at.invariant.sound c.loop-at.at c.index_mut-known.result.now at))
 
 pub returns-in_err-reserve-clause-same : goal.returns-in_err-reserve-clause-same
@@ -35,7 +35,7 @@ returns-in_err-reserve-clause-same g c k t has =
     let at = at_loop c.args.self.now c.self.inside.writers.items c.loop-at.self-inside.writers.items c.loop-at.at
     c.len-at-end.result _ c.index_mut-known.result.now c.self.view_is c.loop-at.invariant.len
     c.self.inside.writers.ok.0 c.len-at-end.ensures c.loop-at-test.true c.index_mut-known.ensures.value in
-    stays c.loop-at.self-inside.writers.items c.loop-at.at c.index_mut-known.result.now (record c.index_mut-known.result.now { proxy = c.reserve.new.self })
+    stays c.loop-at.self-inside.writers.items c.loop-at.at c.index_mut-known.result.now c.reserve.new.self
     at c.reserve.ensures.same k t (c.loop-at.invariant.same k t has)
 
 pub returns-in_err-reserve-clause-succeeds : goal.returns-in_err-reserve-clause-succeeds
@@ -58,20 +58,20 @@ loop-at-preserved g c =
     let made = c.in_ok-reserve.ensures in
     record {
       same = λ k t has. stays c.loop-at.self-inside.writers.items c.loop-at.at c.index_mut-known.result.now
-          (record c.index_mut-known.result.now { proxy = c.reserve.new.self }) at made.same k t (it.same k t has);
-      sound = sound_set c.loop-at.self-inside.writers.items c.loop-at.at (record c.index_mut-known.result.now { proxy = c.reserve.new.self }) it.sound
+          c.reserve.new.self at made.same k t (it.same k t has);
+      sound = sound_set c.loop-at.self-inside.writers.items c.loop-at.at c.reserve.new.self it.sound
           (made.sound (it.sound c.loop-at.at c.index_mut-known.result.now at));
       how = λ k. all_stand {reader = record { writers = c.loop-at.self-inside.writers.items }}
           (record { view = refl; at = at })
-          (record c.index_mut-known.result.now { proxy = c.reserve.new.self }) refl k ∙ it.how k;
-      len = length-set c.loop-at.self-inside.writers.items c.loop-at.at (record c.index_mut-known.result.now { proxy = c.reserve.new.self }) ∙ it.len;
+          c.reserve.new.self made.how k ∙ it.how k;
+      len = length-set c.loop-at.self-inside.writers.items c.loop-at.at c.reserve.new.self ∙ it.len;
       stands = λ h st. made.stands h (it.stands h st);
       qos = made.qos ∙ it.qos;
       writers = made.writers ∙ it.writers;
       spare = omega (arith, it.spare, made.spare);
-      ready = ready_step c.loop-at.self-inside.writers.items c.loop-at.at (record c.index_mut-known.result.now { proxy = c.reserve.new.self }) _ _ made.spare it.ready
+      ready = ready_step c.loop-at.self-inside.writers.items c.loop-at.at c.reserve.new.self _ _ made.spare it.ready
           made.ok;
-      later = λ k le. get-set_other c.loop-at.self-inside.writers.items c.loop-at.at (record c.index_mut-known.result.now { proxy = c.reserve.new.self }) k
+      later = λ k le. get-set_other c.loop-at.self-inside.writers.items c.loop-at.at c.reserve.new.self k
           (omega (arith, le)) ∙ it.later k (omega (arith, le));
     }
 
@@ -91,7 +91,7 @@ returns-in_err-reserve-clause-how g c k =
     c.len-at-end.result _ c.index_mut-known.result.now c.self.view_is c.loop-at.invariant.len
     c.self.inside.writers.ok.0 c.len-at-end.ensures c.loop-at-test.true c.index_mut-known.ensures.value in
     all_stand {reader = record { writers = c.loop-at.self-inside.writers.items }} (record { view = refl; at = at })
-    (record c.index_mut-known.result.now { proxy = c.reserve.new.self }) refl k ∙ c.loop-at.invariant.how k
+    c.reserve.new.self c.in_err-reserve.ensures.how k ∙ c.loop-at.invariant.how k
 
 pub returns-clause-how : goal.returns-clause-how
 returns-clause-how g c k = c.loop-at.invariant.how k

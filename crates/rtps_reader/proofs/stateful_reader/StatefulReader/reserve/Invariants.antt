@@ -2,7 +2,7 @@ use Rattle.std.proofs.Common.{◌≡◌, ◌≤◌, ◌<◌, ℕ, List, length}
 use Rattle.std.specs.Prelude.{slice_get, Some}
 use Rattle.dds_base.specs.declared.happening.Happening.{Happening}
 use Rattle.rtps_reader.specs.declared.known_writer.KnownWriter.{KnownWriter}
-use Rattle.rtps_reader.specs.Proxy.{IsProxyReady}
+use Rattle.rtps_reader.specs.Proxy.{IsWriterReady}
 use Rattle.rtps_reader.specs.Reader.{AllStand, AllStay, count_of}
 use Rattle.rtps_reader.specs.Sound.{AreSound}
 use Rattle.rtps_reader.proofs.stateful_reader.StatefulReader.reserve.Given as goal
@@ -18,6 +18,6 @@ invariant-loop-at g l = record {
   writers : g.S.Sink.writers l.sink ≡ g.S.Sink.writers l.fn.sink;
   spare : g.S.Sink.spare l.fn.sink ≤ g.S.Sink.spare l.sink;
   ready : (k : ℕ) (p : KnownWriter) → k < l.at → slice_get l.self-inside.writers.items k ≡ Some p
-      → IsProxyReady p.proxy (g.S.Sink.spare l.sink);
+      → IsWriterReady p (g.S.Sink.spare l.sink);
   later : (k : ℕ) → l.at ≤ k → slice_get l.self-inside.writers.items k ≡ slice_get l.fn.self.writers k;
 }

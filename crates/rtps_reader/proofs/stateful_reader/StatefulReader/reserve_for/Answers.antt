@@ -1,4 +1,3 @@
-use Rattle.std.proofs.Common.{refl}
 use Rattle.rtps_reader.proofs.ReaderLaws.{Opened, opened, all_stand, all_stay, same_count, ready_of, ready_set, sound_here, sound_set}
 use Rattle.rtps_reader.proofs.stateful_reader.StatefulReader.reserve_for.Given as given
 use Rattle.rtps_reader.proofs.stateful_reader.StatefulReader.reserve_for.Goals as goal
@@ -13,17 +12,17 @@ invariant_of-self g c =
     sound_set _ _ _ c.self.invariant (c.reserve.ensures.sound (sound_here c.self.invariant (here g c)))
 
 pub returns-clause-same : goal.returns-clause-same
-returns-clause-same g c = all_stay (here g c) (record c.index_mut.result.now { proxy = c.reserve.new.self }) c.reserve.ensures.same
+returns-clause-same g c = all_stay (here g c) c.reserve.new.self c.reserve.ensures.same
 
 pub returns-clause-count : goal.returns-clause-count
-returns-clause-count g c = same_count (here g c) (record c.index_mut.result.now { proxy = c.reserve.new.self })
+returns-clause-count g c = same_count (here g c) c.reserve.new.self
 
 pub returns-clause-ok : goal.returns-clause-ok
 returns-clause-ok g c =
-    ready_set (here g c) (record c.index_mut.result.now { proxy = c.reserve.new.self }) (g.S.Sink.spare c.reserve.new.sink) c.reserve.result c.reserve.ensures.ok
+    ready_set (here g c) c.reserve.new.self (g.S.Sink.spare c.reserve.new.sink) c.reserve.result c.reserve.ensures.ok
 
 pub returns-clause-succeeds : goal.returns-clause-succeeds
 returns-clause-succeeds g c = λ ready. c.reserve.ensures.succeeds (ready_of (here g c) _ ready)
 
 pub returns-clause-how : goal.returns-clause-how
-returns-clause-how g c = all_stand (here g c) (record c.index_mut.result.now { proxy = c.reserve.new.self }) refl
+returns-clause-how g c = all_stand (here g c) c.reserve.new.self c.reserve.ensures.how

@@ -25,3 +25,4 @@ returns-clause-meets g c =
 
 pub returns-clause-keeps : goal.returns-clause-keeps
 returns-clause-keeps g c = keeps_all (here g c) c.resume.ensures.how c.resume.ensures.keeps
+    c.resume.ensures.succeeds

@@ -3,7 +3,7 @@ use Rattle.rtps_reader.specs.Proxy.{tracked}
 use Rattle.rtps_reader.specs.Moving.{match_of}
 use Rattle.rtps_reader.specs.Tracked.{Tracked}
 use Rattle.rtps_reader.proofs.JumpLaws.{comes-no_room, comes-now}
-use Rattle.rtps_reader.proofs.BeginLaws.{begun_change, below_refuses, rests_change, room_refuses}
+use Rattle.rtps_reader.proofs.BeginLaws.{begun_change, rests_change, room_refuses}
 use Rattle.rtps_reader.proofs.writer_proxy.WriterProxy.begin_at_change.Goals as goal
 
 pub returns-then-not-room-clause-meets : goal.returns-then-not-room-clause-meets

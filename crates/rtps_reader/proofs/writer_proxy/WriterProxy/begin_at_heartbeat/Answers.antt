@@ -1,4 +1,4 @@
-use Rattle.std.proofs.Common.{◌≡◌, ◌∙◌, ap, subst, ℕ}
+use Rattle.std.proofs.Common.{◌∙◌, ap, subst, ℕ}
 use Rattle.std.specs.Prelude.{Some, Result, IfOk, max}
 use Rattle.dds_base.specs.declared.code.Code.{Code}
 use Rattle.rtps_reader.specs.declared.step.Step.{Step}

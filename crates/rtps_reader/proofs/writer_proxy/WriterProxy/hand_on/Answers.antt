@@ -65,6 +65,7 @@ take-change-requires g c =
 
 pub put-requires : goal.put-requires
 put-requires g c = record {
+  places = c.take-change.ensures.places;
   free = emptied c.args.self.now.held c.take-change.new.self c.place-place.result c.take-change.ensures.each;
 }
 

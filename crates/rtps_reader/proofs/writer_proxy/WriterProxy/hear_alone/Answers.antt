@@ -4,7 +4,7 @@ use Rattle.dds_base.specs.declared.qos.ReaderQos.{ReaderQos}
 use Rattle.rtps_reader.specs.Answer.{heard_after}
 use Rattle.rtps_reader.specs.Moving.{match_of}
 use Rattle.rtps_reader.specs.Proxy.{tracked}
-use Rattle.rtps_reader.specs.Tracked.{Tracked, SameTracked}
+use Rattle.rtps_reader.specs.Tracked.{Tracked}
 use Rattle.rtps_reader.proofs.MoveLaws.{same_is}
 use Rattle.rtps_reader.proofs.ReaderLaws.{same_from}
 use Rattle.rtps_reader.proofs.writer_proxy.WriterProxy.hear_alone.Goals as goal

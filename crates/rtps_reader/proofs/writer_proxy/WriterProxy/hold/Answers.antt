@@ -22,6 +22,7 @@ marks_are old new number r is_new is told =
 
 pub put-requires : goal.put-requires
 put-requires c = record {
+  places = c.requires.places;
   free = free_place c.args.self.now.window c.args.self.now.held c.args.number c.requires.sound.kept
       (sym (new_is c.args.self.now.window c.args.number c.mark.result c.unwrap.result c.unwrap.ensures
       c.mark.ensures.answer) ∙ c.if-unwrap.true);

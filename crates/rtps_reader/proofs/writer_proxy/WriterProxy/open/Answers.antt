@@ -7,13 +7,13 @@ use Rattle.rtps_reader.proofs.writer_proxy.WriterProxy.open.Goals as goal
 
 pub returns-clause-sound : goal.returns-clause-sound
 returns-clause-sound c =
-    let place = c.open-2.ensures.place in
+    let place = c.open.ensures.place in
     record {
       kept = λ n low high.
-          ap (λ (o : Option Change). is_some o) (c.in_ok-held.ensures.none n)
-          ∙ sym (ap (λ (m : Option Mark). says_held m) (c.open-2.ensures.none n));
+          ap (λ (o : Option Change). is_some o) (c.open-2.ensures.none n)
+          ∙ sym (ap (λ (m : Option Mark). says_held m) (c.open.ensures.none n));
       from = omega (arith, place);
-      unmarked = λ n high. c.open-2.ensures.none n;
+      unmarked = λ n high. c.open.ensures.none n;
       place_is_small = omega (arith, place);
       first_is_small = omega arith;
     }
