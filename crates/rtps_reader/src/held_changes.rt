@@ -3,7 +3,7 @@
 //! RTPS 2.5, 8.4.10 (ChangeFromWriter), 8.4.12 (received_change_set). `docs/DECISIONS.md`, "Sets, windows and the
 //! grammar", says why there are 256 places.
 
-ghost use Rattle.std.specs.Prelude.{◌≡◌, ◌≤◌, ◌<◌, ◌+◌, ◌^◌, ◌%◌, ◌==◌, ◌&&◌, ℕ, [], not, nat_lt, None, Some, is_some, IfOk, OnOk, IsOk, IsSome, if◌then◌else◌, replicate};
+ghost use Rattle.std.specs.Prelude.{◌≡◌, ◌≤◌, ◌<◌, ◌+◌, ◌^◌, ◌%◌, ◌==◌, ◌&&◌, ℕ, [], not, nat_lt, true, None, Some, is_some, IfOk, OnOk, IsOk, IsSome, if◌then◌else◌, replicate};
 ghost use Rattle.dds_base.specs.Bounds.{max_sn, window_width};
 ghost use Rattle.rtps_reader.specs.HeldChanges.{HasPlaces, held_at, count_held};
 
@@ -65,7 +65,16 @@ impl HeldChanges {
         }
     }
 
+    /// Whether there is room.
+    pub fn has_room(&self) -> bool
+        ensures room { result ≡ true → HasPlaces self.now }
+    {
+        !self.places.is_empty()
+    }
+
     /// Makes all the room that there will be, if there is none.
+    #[cold]
+    #[inline(never)]
     pub fn reserve(&mut self, alloc: Global) -> Result<(), AllocError>
         ensures places { OnOk result (HasPlaces self.new) }
         ensures each { (n : ℕ) → held_at self.new n ≡ held_at self.old n }

@@ -61,6 +61,7 @@ impl KnownWriter {
 
     /// Makes all memory that the next submessage may take, here and at the sink: none, where it does nothing. It changes
     /// that alone.
+    #[inline(always)]
     pub fn reserve<S: Sink>(&mut self, sink: &mut S) -> Result<(), Code>
         ensures same { SameTracked (tracked self.old.proxy) (tracked self.new.proxy) }
         ensures how { self.new.how ≡ self.old.how }

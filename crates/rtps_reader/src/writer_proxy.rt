@@ -236,6 +236,7 @@ impl WriterProxy {
     }
 
     /// Makes room for the changes that wait, if there is none.
+    #[inline(always)]
     fn make_places(&mut self) -> Result<(), Code>
         ensures same { SameTracked (tracked self.old) (tracked self.new) }
         ensures sound { IsSound self.old → IsSound self.new }
@@ -245,6 +246,9 @@ impl WriterProxy {
         ensures succeeds { HasPlaces self.old.held → IsOk result }
         ensures memory { IfErr result (λ code. code ≡ Memory) }
     {
+        if self.held.has_room() {
+            return Ok(());
+        }
         self.held.reserve(self.alloc)?;
         Ok(())
     }
