@@ -24,7 +24,7 @@ use Rattle.dds_c.specs.declared.participant_answers.FlatTold.{FlatTold}
 
 -- nothing came of an event yet
 abbrev pub no_turn : Turn
-no_turn = record { presences = []; told = []; datagrams = []; lacks_memory = false }
+no_turn = record { presences = []; told = []; datagrams = []; events = []; is_recording = false; lacks_memory = false }
 
 -- whether memory was wanting: 100, else 0
 abbrev pub number_of_lack : Bool → ℕ

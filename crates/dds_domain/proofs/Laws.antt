@@ -1,11 +1,11 @@
 -- What comes one after the other.
-use Rattle.std.proofs.Common.{◌≡◌, ◌<◌, ◌+◌, ℕ, List, [], add-one, get_or, length, subst, sym, take, true}
+use Rattle.std.proofs.Common.{◌≡◌, ◌<◌, ◌+◌, ℕ, List, add-one, get_or, length, subst, sym, take, true}
 use Rattle.std.proofs.lemmas.List.{take_more}
 use Rattle.dds_protocol.specs.declared.event.Packet.{Packet}
 use Rattle.rtps_discovery.specs.declared.row.Row.{Row}
 use Rattle.dds_exchange.specs.States.{State as Exchange}
 use Rattle.dds_domain.specs.Participants.{GoesOne, Runs, State as Participant, more}
-use Rattle.dds_domain.specs.Sharings.{Delivers, DeliversAll, SendsAll, SendsOut, State, delivered_more, sent_more}
+use Rattle.dds_domain.specs.Sharings.{Delivers, DeliversAll, Meetings, MeetsOne, SendsAll, SendsOut, State, delivered_more, met_more, sent_more}
 use Rattle.dds_domain.specs.Turns.{State as Turn}
 
 -- one packet more goes out
@@ -31,3 +31,9 @@ pub runs_next : (n : ℕ) (a : Participant) (t : Turn) (b : Participant) (u : Tu
     → GoesOne true b u c v → Runs (n + 1) a t c v
 runs_next n a t b u c v runs step =
     subst (λ (m : ℕ). Runs m a t c v) (sym (add-one n)) (more n a t b u c v runs step)
+
+-- one more that was due is done
+pub meetings_next : (n : ℕ) (e : Exchange) (t : Turn) (f : Exchange) (u : Turn) (g : Exchange) (v : Turn) → Meetings n e t f u
+    → MeetsOne f u g v → Meetings (n + 1) e t g v
+meetings_next n e t f u g v so_far step =
+    subst (λ (m : ℕ). Meetings m e t g v) (sym (add-one n)) (met_more n e t f u g v so_far step)

@@ -1,14 +1,16 @@
 -- Our peer, as datagrams of the network reach it (RTPS 2.5, 8.3.4: the message receiver). What is said here of what it does is by
 -- the steps of dds_exchange, each of which is one of the machine; s becomes r, and a turn t becomes u. Where memory is wanting
 -- what came or goes is lost.
-use Rattle.std.specs.Prelude.{◌≡◌, ◌⊎◌, ℕ, ◌++◌, ◌∷◌, Bool, true, false, List, [], is_some, length, map, slice_get, Option, Some, None, MatchBool}
+use Rattle.std.specs.Prelude.{◌≡◌, ◌⊎◌, ℕ, zero, suc, ◌++◌, ◌∷◌, Bool, List, [], length, map, slice_get, Option, Some, None, MatchBool}
 use Rattle.dds_base.specs.declared.config.ReaderConfig.{ReaderConfig}
 use Rattle.dds_base.specs.declared.config.WriterConfig.{WriterConfig}
 use Rattle.dds_base.specs.declared.guid.Guid.{Guid}
 use Rattle.dds_base.specs.declared.guid.GuidPrefix.{GuidPrefix}
+use Rattle.dds_machine.specs.declared.call.Call.{Call}
 use Rattle.dds_machine.specs.declared.reply.Reply.{Reply}
 use Rattle.dds_network.specs.Networks.{Does}
 use Rattle.dds_protocol.specs.declared.event.Event.{Event}
+use Rattle.dds_protocol.specs.declared.event.Event.TheVariants.{Call as Calling, Deliver}
 use Rattle.dds_protocol.specs.declared.event.Output.{Output}
 use Rattle.dds_protocol.specs.declared.event.Packet.{Packet}
 use Rattle.rtps_discovery.specs.declared.packet.Packet.{Packet as Datagram}
@@ -17,7 +19,7 @@ use Rattle.rtps_fragments.specs.Hearing.{HearsFront, HearsMessage, Row as Fragme
 use Rattle.rtps_matching.specs.declared.far.Far.{Far}
 use Rattle.rtps_matching.specs.declared.told.Told.{Told}
 use Rattle.dds_exchange.specs.declared.ends.OwnEnd.{OwnEnd}
-use Rattle.dds_exchange.specs.Exchanges.{GoesOut, Hears as Takes, IsOpened as IsExchange, Meetings}
+use Rattle.dds_exchange.specs.Exchanges.{Finds, GoesOut, Hears as Takes, IsOpened as IsExchange, MakesCall}
 use Rattle.dds_exchange.specs.Going.{address_of}
 use Rattle.dds_exchange.specs.States.{State as Exchange}
 use Rattle.dds_exchange.specs.Told.{due_of}
@@ -25,7 +27,7 @@ use Rattle.dds_domain.specs.declared.early.Waiting.{Waiting}
 use Rattle.dds_domain.specs.Earliness.{kept, without}
 use Rattle.dds_domain.specs.Fragmented.{HasFragment}
 use Rattle.dds_domain.specs.Opening.{config_of}
-use Rattle.dds_domain.specs.Turns.{MayLack, Sends, State as Turn, lacking}
+use Rattle.dds_domain.specs.Turns.{MayLack, Records, Sends, State as Turn, lacking}
 
 -- our peer with those whom it is told of, fragments of writers that our readers are matched with, datagrams that wait for a match,
 -- what our readers are called on the network, and how often fragments were asked for
@@ -65,12 +67,14 @@ pub data SendsAll : Exchange → List Row → List Packet → Turn → Turn → 
 
 -- ---- what comes
 
--- A message is one delivery, and what our peer answers goes out.
+-- A message is one delivery, and what our peer answers goes out. In the record it stands as it came.
 pub record DeliversIt (rows : List Row) (bytes : List ℕ) (s : State) (t : Turn) (r : State) (u : Turn) : Type 0 where
   pub output : Output
+  pub given : Turn
   pub takes : Takes s.exchange bytes (Some output) r.exchange
   pub rest : r ≡ with_exchange r.exchange s
-  pub sends : SendsAll r.exchange rows output.packets t u
+  pub records : Records (Deliver bytes) t given
+  pub sends : SendsAll r.exchange rows output.packets given u
 
 -- Or it is lost: as it gets too long, or for want of memory.
 abbrev pub Delivers : List Row → List ℕ → State → Turn → State → Turn → Type 0
@@ -110,11 +114,38 @@ pub data ComesEarly : List Row → State → Turn → State → Turn → Type 0 
   came_more : (rows : List Row) (bytes : List ℕ) (s : State) (t : Turn) (r : State) (u : Turn) (taken : State) (q : State)
       (v : Turn) → ComesEarly rows s t r u → TakesIt r bytes taken → Delivers rows bytes taken u q v → ComesEarly rows s t q v
 
--- So many that are due are done, one after the other: all of them, unless memory is wanting.
+-- The first that is due is done: where it is a call, that is recorded, and then one step of our peer.
+pub record Makes (call : Call) (e : Exchange) (t : Turn) (f : Exchange) (u : Turn) : Type 0 where
+  pub output : Output
+  pub records : Records (Calling call) t u
+  pub makes : MakesCall call e output f
+
+abbrev pub MakesAny : Option Call → Exchange → Turn → Exchange → Turn → Type 0
+MakesAny None e t f u = (f ≡ e) × (u ≡ t)
+MakesAny (Some call) e t f u = Makes call e t f u
+
+pub record MeetsOne (e : Exchange) (t : Turn) (f : Exchange) (u : Turn) : Type 0 where
+  pub call : Option Call
+  pub found : Exchange
+  pub finds : Finds e call found
+  pub makes : MakesAny call found t f u
+
+-- So many are done, one after the other.
+pub data Meetings : ℕ → Exchange → Turn → Exchange → Turn → Type 0 where
+  met_none : (e : Exchange) (t : Turn) → Meetings zero e t e t
+  met_more : (n : ℕ) (e : Exchange) (t : Turn) (f : Exchange) (u : Turn) (g : Exchange) (v : Turn) → Meetings n e t f u
+      → MeetsOne f u g v → Meetings (suc n) e t g v
+
+-- Some are.
+abbrev pub MeetsSome : Exchange → Turn → Exchange → Turn → Type 0
+MeetsSome e t f u = (count : ℕ) × Meetings count e t f u
+
+-- All of them are, unless memory is wanting.
 pub record MeetsAll (s : State) (t : Turn) (r : State) (u : Turn) : Type 0 where
   pub count : ℕ
-  pub met : Meetings count s.exchange r.exchange
-  pub all : ((count ≡ length s.exchange.due) × (u ≡ t)) ⊎ (u ≡ lacking t)
+  pub given : Turn
+  pub met : Meetings count s.exchange t r.exchange given
+  pub all : ((count ≡ length s.exchange.due) × (u ≡ given)) ⊎ (u ≡ lacking given)
   pub rest : r ≡ with_exchange r.exchange s
 
 -- All that is due is done, and then what waited for it comes. Of whom fragments are put together no definition says.
@@ -173,11 +204,13 @@ pub record Hears (rows : List Row) (bytes : List ℕ) (s : State) (t : Turn) (r 
 
 -- ---- calls and the time
 
--- It is one step of our peer, and what that sends goes out.
+-- It is recorded, and then one step of our peer, and what that sends goes out.
 pub record Happens (rows : List Row) (event : Event) (s : State) (t : Turn) (reply : Reply) (r : State) (u : Turn) : Type 0
   where
     pub output : Output
+    pub given : Turn
+    pub records : Records event t given
     pub does : Does s.exchange.core event output r.exchange.core
     pub rest : r ≡ with_exchange (record s.exchange { core = r.exchange.core }) s
-    pub sends : SendsAll r.exchange rows output.packets t u
+    pub sends : SendsAll r.exchange rows output.packets given u
     pub answers : reply ≡ output.reply

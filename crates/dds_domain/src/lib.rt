@@ -23,6 +23,7 @@ mod early;
 mod opening;
 mod participant;
 mod sharing;
+mod telling;
 mod turn;
 
 pub use opening::{OurEnd, Unopened};

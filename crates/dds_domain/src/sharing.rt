@@ -15,6 +15,7 @@ ghost use Rattle.dds_domain.specs.Turns.{MayLack};
 use crate::asking::{asking, first_alone, has_fragment};
 use crate::early::{Early, MOST_EARLY, heartbeat_of};
 use crate::opening::{Parts, config_of};
+use crate::telling::meet_all;
 use crate::turn::Turn;
 use dds_base::{Code, Guid, GuidPrefix, Octets};
 use dds_exchange::{Exchange, NamedEnd, address_of};
@@ -141,7 +142,10 @@ impl Sharing {
         ensures { Delivers rows.now bytes.now self.old turn.old self.new turn.new }
     {
         match self.exchange.hear(self.alloc, bytes) {
-            Ok(Some(output)) => self.send_all(rows, output.packets.as_slice(), turn),
+            Ok(Some(output)) => {
+                turn.record_delivery(self.alloc, bytes);
+                self.send_all(rows, output.packets.as_slice(), turn);
+            }
             Ok(None) => {}
             Err(_) => turn.lack(),
         }
@@ -208,7 +212,7 @@ impl Sharing {
     fn meet_due(&mut self, turn: &mut Turn)
         ensures { MeetsAll self.old turn.old self.new turn.new }
     {
-        match self.exchange.meet_all() {
+        match meet_all(&mut self.exchange, turn) {
             Ok(()) => {}
             Err(_) => turn.lack(),
         }
@@ -304,6 +308,7 @@ impl Sharing {
     pub fn happen(&mut self, rows: &[Row], event: Event, turn: &mut Turn) -> Reply
         ensures happened { Happens rows.now event self.old turn.old result self.new turn.new }
     {
+        turn.record(&event);
         let output = self.exchange.happen(event);
         self.send_all(rows, output.packets.as_slice(), turn);
         output.reply

@@ -1,2 +1,1 @@
-mod Meeting
 mod Rows

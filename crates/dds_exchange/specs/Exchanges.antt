@@ -1,6 +1,6 @@
 -- Our peer, and those whom it is told of (DDS 1.4, 2.2.2.2.1: DomainParticipant; RTPS 2.5, 8.5.4: SEDP). What is told of a match is
 -- one call of it, what comes is one delivery, and each is a step of the machine by the rules of the protocol.
-use Rattle.std.specs.Prelude.{◌≡◌, ◌⊎◌, ℕ, zero, suc, Bool, true, false, List, [], map, drop, slice_get, Option, Some, None, MatchOption, option_map, if◌then◌else◌}
+use Rattle.std.specs.Prelude.{◌≡◌, ◌⊎◌, ℕ, Bool, true, false, List, [], map, drop, slice_get, Option, Some, None, MatchOption, option_map, if◌then◌else◌}
 use Rattle.std.specs.Option.{option_and_then, option_or}
 use Rattle.dds_base.specs.declared.code.Code.{Code}
 use Rattle.dds_base.specs.declared.config.Config.{Config}
@@ -92,32 +92,22 @@ pub record MakesCall (call : CallOf) (old : State) (output : Output) (new : Stat
   pub left : new.due ≡ left_due output old.due
   pub rest : new ≡ record old { core = new.core; due = new.due }
 
--- So it is, if it is a call.
-abbrev pub Makes : Option CallOf → State → Option Output → State → Type 0
-Makes None old output new = (output ≡ None) × (new ≡ record old { due = drop 1 old.due })
-Makes (Some call) old output new = (o : Output) × (output ≡ Some o) × MakesCall call old o new
+-- what was told is due no more where it is no call
+abbrev pub found_by : Option CallOf → State → State
+found_by None e = record e { due = drop 1 e.due }
+found_by (Some call) e = e
 
--- The first that was told and is due is done.
-pub record MeetsFirst (old : State) (output : Option Output) (new : State) : Type 0 where
+-- The call of the first that was told and is due is found,
+pub record FindsFirst (old : State) (call : Option CallOf) (new : State) : Type 0 where
   pub due : Due
-  pub call : Option CallOf
   pub named : State
   pub first : slice_get old.due 0 ≡ Some due
   pub calls : Calls due old call named
-  pub makes : Makes call named output new
+  pub rest : new ≡ found_by call named
 
--- Nothing is done where nothing is due.
-abbrev pub Meets : State → Option Output → State → Type 0
-Meets old output new = MeetsFirst old output new ⊎ ((slice_get old.due 0 ≡ None) × (output ≡ None) × (new ≡ old))
-
--- So many that are due are done, one after the other.
-pub data Meetings : ℕ → State → State → Type 0 where
-  none : (e : State) → Meetings zero e e
-  more : (n : ℕ) (a b c : State) (output : Option Output) → Meetings n a b → Meets b output c → Meetings (suc n) a c
-
--- Some are.
-abbrev pub MeetsSome : State → State → Type 0
-MeetsSome old new = (count : ℕ) × Meetings count old new
+-- and none where nothing is due.
+abbrev pub Finds : State → Option CallOf → State → Type 0
+Finds old call new = FindsFirst old call new ⊎ ((slice_get old.due 0 ≡ None) × (call ≡ None) × (new ≡ old))
 
 -- ---- datagrams
 

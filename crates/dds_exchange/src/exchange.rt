@@ -13,7 +13,7 @@ ghost use Rattle.dds_machine.specs.Part.{how_of, is_attached, own_proxies};
 ghost use Rattle.dds_network.specs.Networks.{Does};
 ghost use Rattle.dds_protocol.specs.Peer.{Peer as PeerState};
 ghost use Rattle.dds_protocol.specs.Roster.{Roster};
-ghost use Rattle.dds_exchange.specs.Exchanges.{Calls, GoesOut, Hears, IsOpened, MakesCall, Meetings, Meets, MeetsSome, found_no_memory, known_of, other_kind, own_end};
+ghost use Rattle.dds_exchange.specs.Exchanges.{Calls, Finds, GoesOut, Hears, IsOpened, MakesCall, found_no_memory, known_of, other_kind, own_end};
 ghost use Rattle.dds_exchange.specs.Told.{due_of};
 
 use crate::ends::{OwnEnd, end_number};
@@ -227,8 +227,35 @@ impl Exchange {
         }
     }
 
-    /// A call that is due, which is so no more, unless it finds no memory.
-    fn make(&mut self, call: Call) -> Output
+    /// The call that is due next, of what was told; `None` where the first that is due is none, which is then due no more, or where
+    /// nothing is due. `make` makes it.
+    ///
+    /// # Errors
+    ///
+    /// `Memory` where there is none for the name of the other endpoint: then it is due still.
+    ///
+    /// RTPS 2.5, 8.4.7.4, 8.4.10.3 (matched_reader_add, matched_writer_add and their removals).
+    pub fn next_call(&mut self) -> Result<Option<Call>, Code>
+        // It is that of the first that is due.
+        ensures next { IfOk result (λ call. Finds self.old call self.new) }
+        // A refusal changes nothing.
+        ensures err { OnErr result (self.new ≡ self.old) }
+        // The only refusal is for want of memory.
+        ensures memory { IfErr result (λ e. e ≡ Code.Memory) }
+    {
+        let Some(due) = self.first_due() else {
+            return Ok(None);
+        };
+        let call = self.call_for(&due)?;
+        if call.is_none() {
+            self.drop_due();
+        }
+        Ok(call)
+    }
+
+    /// The call of `next_call` is made. It is due no more, unless it finds no memory.
+    pub fn make(&mut self, call: Call) -> Output
+        // It is one step of our peer.
         ensures made { MakesCall call self.old result self.new }
     {
         let output = self.core.step(Event::Call(call));
@@ -238,49 +265,11 @@ impl Exchange {
         output
     }
 
-    /// The first that is due is a call of our peer, if it is one, and is due no more, unless that call finds no memory.
-    ///
-    /// # Errors
-    ///
-    /// `Memory` where there is none for the name of the other endpoint: then it is due still.
-    ///
-    /// RTPS 2.5, 8.4.7.4, 8.4.10.3 (matched_reader_add, matched_writer_add and their removals).
-    pub fn meet(&mut self) -> Result<Option<Output>, Code>
-        // It is one step of our peer.
-        ensures met { IfOk result (λ output. Meets self.old output self.new) }
-        // A refusal changes nothing.
-        ensures err { OnErr result (self.new ≡ self.old) }
-        // The only refusal is for want of memory.
-        ensures memory { IfErr result (λ e. e ≡ Code.Memory) }
+    /// How much that was told is due.
+    pub fn count_due(&self) -> usize
+        ensures count { result ≡ length self.now.due }
     {
-        let Some(due) = self.first_due() else {
-            return Ok(None);
-        };
-        let Some(call) = self.call_for(&due)? else {
-            self.drop_due();
-            return Ok(None);
-        };
-        Ok(Some(self.make(call)))
-    }
-
-    /// All that is due is done, one after the other: each is a call of our peer, if it is one. Those that find no memory are
-    /// due still.
-    ///
-    /// # Errors
-    ///
-    /// `Memory` where there is none for a name: then what is left is due still.
-    pub fn meet_all(&mut self) -> Result<(), Code>
-        // Each is done, in its order.
-        ensures all { OnOk result (Meetings (length self.old.due) self.old self.new) }
-        // Where a name finds no memory some are.
-        ensures some { OnErr result (MeetsSome self.old self.new) }
-        // The only refusal is for want of memory.
-        ensures memory { IfErr result (λ e. e ≡ Code.Memory) }
-    {
-        for _count in 0..self.due.len() {
-            let _ = self.meet()?;
-        }
-        Ok(())
+        self.due.len()
     }
 
     /// A call of the application, or the time that goes on.

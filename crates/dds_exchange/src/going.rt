@@ -7,7 +7,9 @@
 ghost use Rattle.std.specs.Prelude.{◌≡◌, find, IfOk, IfErr, MatchOption};
 ghost use Rattle.std.specs.Option.{option_copied};
 ghost use Rattle.std.specs.Str.{bytes_eq};
+ghost use Rattle.dds_builtin.specs.Kinds.{WithTheirKinds};
 ghost use Rattle.rtps_discovery.specs.Rows.{is_row};
+ghost use Rattle.dds_exchange.specs.Entities.{kind_at_peer};
 ghost use Rattle.dds_exchange.specs.Going.{HasRows, IsTooLongIn, IsTooLongOut, TurnsIn, TurnsOut, address_of, reach};
 
 use crate::ends::OwnEnd;
@@ -49,6 +51,22 @@ fn rows_for<'a>(
     }
 }
 
+/// A datagram whose readers and writers are called as at our peer: those without a key as those with one.
+///
+/// # Errors
+///
+/// `Memory` where there is none.
+///
+/// RTPS 2.5, 9.3.1 (entity kinds).
+pub fn called_in(alloc: Global, bytes: &[u8]) -> Result<Octets, Code>
+    // Each has the kind that it has at our peer, and all else is as it was.
+    ensures called { IfOk result (WithTheirKinds kind_at_peer kind_at_peer bytes.now) }
+    // The only refusal is for want of memory.
+    ensures memory { IfErr result (λ e. e ≡ Code.Memory) }
+{
+    with_kinds_of(alloc, &ToPeer, bytes)
+}
+
 /// What a datagram is to our peer; `None` where it gets longer than a datagram may be.
 ///
 /// # Errors
@@ -59,7 +77,7 @@ pub fn turned_in(alloc: Global, known: &Known, bytes: &[u8]) -> Result<Option<Oc
         (TurnsIn known.now bytes.now)) }
     ensures memory { IfErr result (λ e. e ≡ Code.Memory) }
 {
-    let bytes = with_kinds_of(alloc, &ToPeer, bytes)?;
+    let bytes = called_in(alloc, bytes)?;
     let rows = rows_for(alloc, known, bytes.as_slice())?;
     match inward_with_gaps(alloc, &rows, bytes.as_slice())? {
         Adapted::AsItIs => Ok(Some(bytes)),

@@ -21,7 +21,7 @@ mod told;
 pub use carried::Carried;
 pub use ends::OwnEnd;
 pub use exchange::Exchange;
-pub use going::address_of;
+pub use going::{address_of, called_in};
 pub use naming::NamedEnd;
 pub use opening::{can_hold, reader_config, writer_config};
 pub use told::Due;

@@ -49,6 +49,7 @@ pub record IsUsual (r : Request) : Type 0 where
   pub interface : r.interface ≡ None
   pub seconds : r.seconds ≡ None
   pub ends : r.ends.items ≡ []
+  pub trace : r.trace ≡ None
 
 -- what is asked for where an option of one word stands too; none where it is no such option, or not with this word
 abbrev pub with_option : List ℕ → List ℕ → Request → Option Request

@@ -7,6 +7,7 @@ use crate::failure::Failure;
 use crate::moments::Moments;
 use crate::port::{Port, group_port, own_address, unicast_port};
 use crate::samples::our_ends;
+use crate::trace::Trace;
 use crate::turns::Live;
 use crate::watcher::Watcher;
 use crate::words::{Purpose, Request, Target, read_words};
@@ -17,6 +18,7 @@ use discovery_script::{USUAL_ENDPOINTS, USUAL_LIMITS, one_locator, print_open};
 use rtps_announcements::{Duration, Locator, Participant, VendorId};
 use rtps_discovery::Settings;
 use std::alloc::{AllocError, Global};
+use std::fs::{File, Files};
 use std::io::{Input, Write};
 use std::net::{Ipv4Addr, Net};
 use std::random::RandomSource;
@@ -170,8 +172,27 @@ fn begin(
     }
 }
 
+/// What happens to our peer is traced, where that is asked for: it has our endpoints where samples are exchanged.
+fn trace_of<R: Files<File = File>>(
+    rt: &R,
+    alloc: Global,
+    prefix: GuidPrefix,
+    request: &Request,
+) -> Result<Option<Trace>, Failure> {
+    let Some(path) = &request.trace else {
+        return Ok(None);
+    };
+    let ends = match request.purpose {
+        Purpose::Watch => &[],
+        Purpose::Listen | Purpose::Say => request.ends.as_slice(),
+    };
+    let mut trace = Trace::open(rt, alloc, path.as_str(), &request.of)?;
+    trace.begin(prefix, ends, request.of.max_value)?;
+    Ok(Some(trace))
+}
+
 /// Opens the socket, and begins.
-fn open<R: Net + Clock>(
+fn open<R: Net + Clock + Files<File = File>>(
     rt: &R,
     alloc: Global,
     prefix: GuidPrefix,
@@ -188,6 +209,7 @@ fn open<R: Net + Clock>(
         addresses,
         limits: USUAL_LIMITS,
     };
+    let trace = trace_of(rt, alloc, prefix, &request)?;
     let participant = begin(alloc, settings, own, request)?;
     Ok(Live {
         alloc,
@@ -196,6 +218,7 @@ fn open<R: Net + Clock>(
         port,
         moments,
         purpose,
+        trace,
     })
 }
 
@@ -213,7 +236,7 @@ fn serve<R: Net + Clock + Input>(
 }
 
 /// Does what is asked for, with a participant of this prefix.
-fn who<R: Net + Clock + Input>(
+fn who<R: Net + Clock + Files<File = File> + Input>(
     rt: &R,
     alloc: Global,
     prefix: GuidPrefix,
@@ -229,7 +252,7 @@ fn who<R: Net + Clock + Input>(
     }
 }
 
-fn run<R: Net + Clock + Input + RandomSource>(
+fn run<R: Net + Clock + Files<File = File> + Input + RandomSource>(
     rt: &R,
     alloc: Global,
     words: &[String],
@@ -242,7 +265,7 @@ fn run<R: Net + Clock + Input + RandomSource>(
 
 /// Does what the words ask for, prints a failure on `errors`, and answers the exit status: 0 where all went well, 2 for
 /// wrong words, else 1.
-pub fn program<R: Net + Clock + Input + RandomSource>(
+pub fn program<R: Net + Clock + Files<File = File> + Input + RandomSource>(
     rt: &R,
     alloc: Global,
     words: &[String],

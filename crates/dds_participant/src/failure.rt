@@ -39,6 +39,9 @@ pub enum Failure {
     /// A line of the input has more than 131,080 octets.
     #[error("input too long")]
     LineTooLong,
+    /// The trace can't be opened or written, for this cause.
+    #[error("the trace failed: {0}")]
+    TraceFailed(String),
     /// The system has no random octets for our name.
     #[error("there are no random octets")]
     NoRandom,

@@ -1,20 +1,24 @@
 //! The program: a participant on the network, over UDP. Its word `who` prints who is there: participants and the endpoints
 //! that they announce, which endpoints of ours are matched with them, and why one is not.
 //!
-//! `listen` takes what is written for its topic and prints it with its SampleInfo, `say` writes what lines say.
+//! `listen` takes what is written for its topic and prints it with its SampleInfo, `say` writes what lines say. `--trace`
+//! writes what happened to our peer into a file, which `dds_pipe` answers as it did.
 //!
 //! Contracts say which ports are those of a domain, to whom we announce ourselves, what an option of one word sets, which
 //! lines are printed of what discovery told, and the exit status of a failure. They do not say how a participant, an
-//! endpoint or a sample is printed, which calls lines ask for, nor what sockets and the clock give: that is tested. What a
+//! endpoint, a sample or a trace is printed, which calls lines ask for, nor what sockets and the clock give: that is tested. What a
 //! participant does is proved in `dds_domain`.
 #![tactic(auto)]
 
 mod asked;
+mod calls;
 mod entry;
 mod failure;
+mod line;
 mod moments;
 mod port;
 mod samples;
+mod trace;
 mod turns;
 mod watcher;
 mod words;

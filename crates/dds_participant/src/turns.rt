@@ -8,6 +8,7 @@ use crate::failure::Failure;
 use crate::moments::Moments;
 use crate::port::Port;
 use crate::samples::{is_behind, take_all, take_line};
+use crate::trace::Trace;
 use crate::watcher::{Watcher, list_all};
 use crate::words::Purpose;
 use dds_domain::{Participant, Turn};
@@ -30,6 +31,7 @@ pub struct Live {
     pub port: Port,
     pub moments: Moments,
     pub purpose: Purpose,
+    pub trace: Option<Trace>,
 }
 
 /// What happens to a participant.
@@ -68,6 +70,23 @@ impl Live {
         give(&self.port, &Turn::new(self.alloc), &lines, output)
     }
 
+    /// Nothing yet; what happens to our peer is recorded where it is traced.
+    fn begin_turn(&self) -> Turn {
+        if self.trace.is_some() {
+            Turn::recording(self.alloc)
+        } else {
+            Turn::new(self.alloc)
+        }
+    }
+
+    /// What happened to our peer in a turn is traced, where that is asked for.
+    fn put_trace(&mut self, turn: &Turn) -> Result<(), Failure> {
+        match &mut self.trace {
+            Some(trace) => trace.put(turn),
+            None => Ok(()),
+        }
+    }
+
     /// What came of an event is printed and sent, with the samples that it brought, where they are wanted.
     fn show<W: Write>(&mut self, turn: &mut Turn, output: &mut W) -> Result<(), Failure> {
         let mut lines = Vec::new(self.alloc);
@@ -78,6 +97,7 @@ impl Live {
         if turn.lacks_memory {
             lines.extend_from_slice(NO_MEMORY)?;
         }
+        self.put_trace(turn)?;
         give(&self.port, turn, &lines, output)
     }
 
@@ -88,7 +108,7 @@ impl Live {
         event: Event,
         output: &mut W,
     ) -> Result<(), Failure> {
-        let mut turn = Turn::new(self.alloc);
+        let mut turn = self.begin_turn();
         match event {
             Event::Datagram => {
                 let (source, octets) = (self.port.source(), self.port.octets());
@@ -122,7 +142,7 @@ impl Live {
         if let Purpose::Watch = self.purpose {
             return Ok(());
         }
-        let mut turn = Turn::new(self.alloc);
+        let mut turn = self.begin_turn();
         let mut lines = Vec::new(self.alloc);
         for _ in 0..u64::MAX {
             let Some(line) = input.next(self.alloc)? else {
@@ -136,6 +156,7 @@ impl Live {
                 &mut lines,
             )?;
         }
+        self.put_trace(&turn)?;
         give(&self.port, &turn, &lines, output)
     }
 

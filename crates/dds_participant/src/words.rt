@@ -21,7 +21,7 @@ pub const USAGE: &str =
     "usage: dds_participant who [SETTING..] [--writer TOPIC TYPE [OPTION..]].. [--reader TOPIC TYPE [OPTION..]]..
        dds_participant listen TOPIC TYPE [OPTION..] [SETTING..] [--kind KIND] [--values N]
        dds_participant say TOPIC TYPE [OPTION..] [SETTING..] [--kind KIND] [--values N]
-SETTING: --domain N, --address ADDRESS, --interface ADDRESS, --seconds N
+SETTING: --domain N, --address ADDRESS, --interface ADDRESS, --seconds N, --trace FILE
 KIND: datum, keyless, cdr PLACE:SIZE.. or cdr2 PLACE:SIZE..";
 
 /// The greatest domain: above it ports end.
@@ -64,6 +64,8 @@ pub struct Request {
     pub seconds: Option<u64>,
     /// Our endpoints.
     pub ends: Vec<End>,
+    /// The file for what happens to our peer, if there is one.
+    pub trace: Option<String>,
 }
 
 fn domain(word: &str) -> Option<u32>
@@ -126,6 +128,7 @@ impl Request {
             interface: None,
             seconds: None,
             ends: Vec::new(alloc),
+            trace: None,
         }
     }
 
@@ -206,9 +209,16 @@ impl Request {
             ["--reader", words @ ..] => self.add(alloc, prefix, EndpointKind::Reader, words),
             ["--address", word] => self.tell(word),
             ["--kind", kind, fields @ ..] => self.take_kind(kind, fields),
+            ["--trace", file] => self.trace_to(alloc, file),
             [name, word] => Ok(self.set(name, word).is_some()),
             _ => Ok(false),
         }
+    }
+
+    /// What happens to our peer goes to this file.
+    fn trace_to(&mut self, alloc: Global, file: &str) -> Result<bool, Code> {
+        self.trace = Some(String::from_str(alloc, file)?);
+        Ok(true)
     }
 
     /// Takes up what our topics carry; whether that is a type.
@@ -298,6 +308,7 @@ fn form_of(name: &str) -> &'static str {
         "--address" => "--address ADDRESS, as 10.0.0.2 or 10.0.0.2:7410",
         "--interface" => "--interface ADDRESS, as 10.0.0.1",
         "--seconds" => "--seconds N",
+        "--trace" => "--trace FILE",
         "--kind" =>
             "--kind datum, keyless, cdr PLACE:SIZE.. or cdr2 PLACE:SIZE.., each of 1, 2, 4 or 8 octets",
         "--values" => "--values N, from 1 to 65000",

@@ -7,7 +7,7 @@ returns-in-AsItIs-clause-turned c =
     record {
       between = c.in_ok-bytes.bytes;
       rows = c.in_ok-rows.rows.items;
-      kinds = c.in_ok-bytes.ensures.turned;
+      kinds = c.in_ok-bytes.ensures.called;
       table = rw c.as_slice.ensures.octets at c.in_ok-rows.ensures.rows;
       adapts = rw c.deref.ensures.value at (rw c.as_slice-2.ensures.octets at answer);
     }
@@ -18,7 +18,7 @@ returns-in-Rewritten-clause-turned c =
     record {
       between = c.in_ok-bytes.bytes;
       rows = c.in_ok-rows.rows.items;
-      kinds = c.in_ok-bytes.ensures.turned;
+      kinds = c.in_ok-bytes.ensures.called;
       table = rw c.as_slice.ensures.octets at c.in_ok-rows.ensures.rows;
       adapts = rw c.deref.ensures.value at (rw c.as_slice-2.ensures.octets at answer.0);
     }
@@ -31,7 +31,7 @@ returns-in-TooLong-clause-turned c =
       turns = record {
         between = c.in_ok-bytes.bytes;
         rows = c.in_ok-rows.rows.items;
-        kinds = c.in_ok-bytes.ensures.turned;
+        kinds = c.in_ok-bytes.ensures.called;
         table = rw c.as_slice.ensures.octets at c.in_ok-rows.ensures.rows;
         adapts = rw c.deref.ensures.value at (rw c.as_slice-2.ensures.octets at answer.1);
       };
