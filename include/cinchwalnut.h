@@ -511,7 +511,9 @@ uint8_t cw_participant_hear(cw_participant *participant, uint64_t now, const uin
 uint8_t cw_participant_tick(cw_participant *participant, uint64_t now);
 uint8_t cw_participant_leave(cw_participant *participant);
 /* Calls, as those of a peer. A value is a payload, with representation and options, but where it is the datum; a key of a type
- * without a key is sixteen zeros. Of a packet that found no memory the code says nothing: it is as lost. A line is a call. */
+ * without a key is sixteen zeros. CW_BAD_PARAMETER where the value is none of the type or has another key, and where a key that
+ * is said alone is none of the type, or an MD5. Of a packet that found no memory the code says nothing: it is as lost. A line is
+ * a call. */
 uint8_t cw_participant_register(cw_participant *participant, uint8_t writer, const uint8_t key[16]);
 uint8_t cw_participant_write(cw_participant *participant, uint8_t writer, const uint8_t key[16], const uint8_t *value,
                              size_t value_len);
@@ -531,6 +533,9 @@ uint8_t cw_participant_sample(cw_participant *participant, size_t at, cw_sample_
 uint8_t cw_participant_told(cw_participant *participant, size_t at, cw_told *told);
 uint8_t cw_participant_presence(cw_participant *participant, size_t at, cw_presence *presence);
 uint8_t cw_participant_text(cw_participant *participant, uint8_t *buffer, size_t buffer_len, size_t *needed);
+/* Looks. Of those of others with which its writer or reader (CW_WRITER, CW_READER) of a number is matched now: the GUID of one,
+ * from 0 on. CW_NO_DATA behind the last, CW_BAD_PARAMETER where there is no such writer or reader. */
+uint8_t cw_participant_matched(cw_participant *participant, uint8_t kind, uint8_t number, size_t at, uint8_t guid[16]);
 /* Whether some matched reliable reader has not acknowledged all that was written: 1, else 0, as where none is open. */
 uint8_t cw_participant_is_behind(cw_participant *participant);
 
@@ -775,6 +780,8 @@ CW_PARTICIPANT_CALL(presence, (cw_participant *participant, size_t at, cw_presen
 CW_PARTICIPANT_IF(cw_is_array(buffer, buffer_len), text, CW_NONNULL(1, 4),
                   (cw_participant *participant, uint8_t *buffer, size_t buffer_len, size_t *needed),
                   (participant, (uint8_t *)cw_array(buffer), buffer_len, needed))
+CW_PARTICIPANT_CALL(matched, (cw_participant *participant, uint8_t kind, uint8_t number, size_t at, uint8_t guid[16]),
+                    (participant, kind, number, at, guid))
 
 static inline CW_NONNULL() void cw_marked_participant_close(cw_participant *participant) {
     if (!cw_enters(&participant->is_busy))
@@ -869,6 +876,7 @@ static inline CW_NONNULL() uint8_t cw_marked_participant_is_behind(cw_participan
 #define cw_participant_told cw_marked_participant_told
 #define cw_participant_presence cw_marked_participant_presence
 #define cw_participant_text cw_marked_participant_text
+#define cw_participant_matched cw_marked_participant_matched
 #define cw_participant_is_behind cw_marked_participant_is_behind
 
 #ifdef __cplusplus

@@ -15,6 +15,7 @@ namespace cinchwalnut {
 
 using Octets = std::vector<std::uint8_t>;
 using Key = std::array<std::uint8_t, 16>;
+using Guid = std::array<std::uint8_t, 16>;
 
 /// Octets that are to be sent, and the number of the peer that they are for.
 struct Packet {
@@ -206,6 +207,14 @@ public:
         return cw_participant_take(&held_, reader, max, CW_ANY, CW_ANY, CW_ANY);
     }
     bool is_behind() { return cw_participant_is_behind(&held_) != 0; }
+
+    /// Those of others with which the writer or the reader (CW_WRITER, CW_READER) of a number is matched now.
+    std::vector<Guid> matched(std::uint8_t kind, std::uint8_t number) {
+        std::vector<Guid> got;
+        for (Guid one{}; cw_participant_matched(&held_, kind, number, got.size(), one.data()) == CW_OK;)
+            got.push_back(one);
+        return got;
+    }
 
     /// For all other calls of cinchwalnut.h.
     cw_participant *get() { return &held_; }

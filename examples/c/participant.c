@@ -94,6 +94,15 @@ static void tick(void) {
     arrive();
 }
 
+/* With whom the writer of a number is matched now. */
+static void print_matched(uint8_t writer) {
+    uint8_t guid[16] = {0};
+    printf("writer %d is matched with:", writer);
+    for (size_t at = 0; cw_participant_matched(&first.it, CW_WRITER, writer, at, guid) == CW_OK; at++)
+        print_octets(" ", guid + 12, 4, "");
+    printf("\n");
+}
+
 static void write_one(uint8_t writer, const uint8_t key[16], const uint8_t *value, size_t len) {
     CHECK(cw_participant_write(&first.it, writer, key, value, len) == CW_OK);
     send_all(&first);
@@ -119,6 +128,7 @@ int main(void) {
     open_side(&second, 2, readers, first.port);
     for (int turn = 0; turn < 4; turn++)
         tick();
+    print_matched(1);
     write_one(1, key, reading, sizeof reading);
     write_one(2, none, word, sizeof word);
     CHECK(cw_participant_dispose(&first.it, 1, key) == CW_OK);

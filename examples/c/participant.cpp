@@ -60,6 +60,8 @@ int main() {
                 send_all(*it);
         arrive();
     }
+    for (const cinchwalnut::Guid &it : first.it.matched(CW_WRITER, 1))
+        std::printf("first: writer 1 has reader %d\n", it[14]);
     const Octets word = {0, 1, 0, 0, 6, 0, 0, 0, 'h', 'e', 'l', 'l', 'o', 0}; // CDR_LE: "hello"
     std::printf("written: %s\n", cw_code_name(first.it.write(1, {}, word)));
     send_all(first);

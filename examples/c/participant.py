@@ -1,6 +1,6 @@
 """Two participants in one process, which find each other: what one sends is handed to the other in memory, and the moments are
 made up. The first writes readings of sensors and words, the second takes them, and the first leaves."""
-from cinchwalnut import SECOND, Carries, InstanceState, KeyField, Participant, data_reader, data_writer
+from cinchwalnut import SECOND, Carries, EntityKind, InstanceState, KeyField, Participant, data_reader, data_writer
 
 FIRST, SECOND_ONE = ("127.0.0.1", 7410), ("127.0.0.1", 7412)
 READING = ("Readings", "reading", Carries.CDR)  # struct reading { long sensor; long value; } with the key sensor
@@ -29,6 +29,7 @@ with Participant([data_writer(*READING, fields=KEYS), data_writer(*WORD)], bytes
     for now in moments:
         carry(now, first.tick(now), "first", first)
         carry(now, second.tick(now), "second", second)
+    print("writer 1 is matched with:", *(it[12:].hex() for it in first.matched(EntityKind.WRITER, 1)))
     key = bytes([0, 0, 0, 7] + [0] * 12)
     carry(now, first.write(1, bytes([0, 1, 0, 0, 7, 0, 0, 0, 21, 0, 0, 0]), key), "first", first)
     carry(now, first.write(2, b"\0\1\0\0\6\0\0\0hello\0"), "first", first)

@@ -67,8 +67,8 @@ static void say_ends_that_are_none(void) {
 }
 
 int main(void) {
-    const uint8_t key[16] = {0}, value[1025] = {0}, here[4] = {127, 0, 0, 1};
-    uint8_t buffer[8] = {0}, address[4] = {0};
+    const uint8_t key[16] = {0}, other[16] = {1}, value[1025] = {0}, here[4] = {127, 0, 0, 1};
+    uint8_t buffer[8] = {0}, address[4] = {0}, guid[16] = {0};
     uint16_t port = 0;
     size_t needed = 0;
     cw_told told = {0};
@@ -81,10 +81,18 @@ int main(void) {
     say("after a refusal the one that was open stays", cw_participant_tick(&it, 1));
     say("an earlier moment", cw_participant_tick(&it, 0));
     say("a value of 1,025 octets", cw_participant_write(&it, 1, key, value, sizeof value));
+    say("a value that is no payload", cw_participant_write(&it, 1, key, value, 3));
+    say("a key of a type without one", cw_participant_write(&it, 1, other, value, 8));
+    say("a dispose by it", cw_participant_dispose(&it, 1, other));
+    say("a registration by it", cw_participant_register(&it, 1, other));
+    say("a value of the type", cw_participant_write(&it, 1, key, value, 8));
     say("a writer that there isn't", cw_participant_write(&it, 17, key, value, 1));
     say("a reader that there isn't", cw_participant_take(&it, 1, -1, CW_ANY, CW_ANY, CW_ANY));
     say("a sample of an answer that has none", cw_participant_sample(&it, 0, &info, buffer, 8, &needed));
     say("a change of matches that there isn't", cw_participant_told(&it, 0, &told));
+    say("a match that there isn't", cw_participant_matched(&it, CW_WRITER, 1, 0, guid));
+    say("those of a writer that there isn't", cw_participant_matched(&it, CW_WRITER, 17, 0, guid));
+    say("those of a participant", cw_participant_matched(&it, CW_PARTICIPANT, 1, 0, guid));
     say("octets that are no datagram", cw_participant_hear(&it, 2, here, value, sizeof value));
     say("NULL, and no octets", cw_participant_hear(&it, 2, here, NULL, 0));
     say("NULL, and some octets", cw_participant_hear(&it, 2, here, NULL, 1));

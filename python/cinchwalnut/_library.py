@@ -120,7 +120,7 @@ _OF_PARTICIPANT: Dict[str, List[Any]] = {
     **{"write": [_U8, _OCTETS, _OCTETS, _SIZE], **{it: [_U8, _OCTETS] for it in ("register", "dispose", "unregister")}},
     **{it: [_U8, _I32, *_MASKS] for it in ("read", "take")},
     **{"datagram": [_SIZE, _INTO, _INTO, _INTO, _SIZE, _INTO], "sample": [_SIZE, _INTO, _INTO, _SIZE, _INTO]},
-    **{"told": [_SIZE, _INTO], "presence": [_SIZE, _INTO], "text": [_INTO, _SIZE, _INTO]},
+    **{"told": [_SIZE, _INTO], "presence": [_SIZE, _INTO], "text": [_INTO, _SIZE, _INTO], "matched": [_U8, _U8, _SIZE, _INTO]},
 }
 _OF_PARTICIPANT["open"].insert(0, c.POINTER(CSettings))
 

@@ -111,7 +111,7 @@ def _host(value: str) -> bytes:
 
 
 # As the structs of the header lie in memory.
-_TOLD, _PRESENCE, _TO = struct.Struct("=B16s16s"), struct.Struct("=?12s"), struct.Struct("=4sH")
+_TOLD, _PRESENCE, _TO, _GUID = struct.Struct("=B16s16s"), struct.Struct("=?12s"), struct.Struct("=4sH"), struct.Struct("=16s")
 
 
 class Participant(Holds):
@@ -146,10 +146,10 @@ class Participant(Holds):
             return PreconditionNotMet(code, "the participant is closed")
         return refused(code, line)
 
-    def _sent(self, call: Any, *arguments: Any) -> List[Datagram]:
+    def _sent(self, call: Any, *arguments: Any, why: str = "") -> List[Datagram]:
         with self._lock:
             if code := call(self._at, *arguments):
-                raise self._refused(code)
+                raise self._refused(code, why if code == Code.BAD_PARAMETER else "")
             return self.datagrams()
 
     # Events: a datagram comes, the time goes on, the participant leaves. Moments are in units of 2^-32 second.
@@ -169,7 +169,7 @@ class Participant(Holds):
     # Calls of a writer, by its number. A key has sixteen octets: the key members, big-endian, and zeros.
 
     def _keyed(self, call: Any, number: int, key: Octets) -> List[Datagram]:
-        return self._sent(call, u8(number, "number"), key_of(key))
+        return self._sent(call, u8(number, "number"), key_of(key), why="there is no such writer, or its type has no such key, or an MD5")
 
     def register(self, number: int, key: Octets) -> List[Datagram]:
         return self._keyed(_LIBRARY.cw_participant_register, number, key)
@@ -182,7 +182,8 @@ class Participant(Holds):
         if key is not None and own is not None and bytes(key) != own:
             raise ValueError(f"the key of this value is {own.hex()}, and not {bytes(key).hex()}")
         key = key if key is not None else own or bytes(16)
-        return self._sent(_LIBRARY.cw_participant_write, u8(number, "number"), key_of(key), said, len(said))
+        why = "there is no such writer, or the value is none of its type, or too long"
+        return self._sent(_LIBRARY.cw_participant_write, u8(number, "number"), key_of(key), said, len(said), why=why)
 
     def dispose(self, number: int, key: Octets) -> List[Datagram]:
         return self._keyed(_LIBRARY.cw_participant_dispose, number, key)
@@ -243,6 +244,13 @@ class Participant(Holds):
         """The reply in words, as docs/PIPE.md has them."""
         with self._lock:
             return self._there(self._copied(_LIBRARY.cw_participant_text), "text").decode().rstrip("\n")
+
+    # Looks, which change nothing.
+
+    def matched(self, kind: EntityKind, number: int) -> List[bytes]:
+        """The GUIDs of those of others with which the writer or the reader of this number is matched now."""
+        asked = u8(EntityKind(kind), "kind"), u8(number, "number")
+        return [it for (it,) in self._each(lambda at: self._fetched(_GUID, _LIBRARY.cw_participant_matched, *asked, at))]
 
     @property
     def is_behind(self) -> bool:

@@ -13,3 +13,4 @@ pub mod Opening
 pub mod Partaking
 pub mod Sums
 pub mod Watching
+pub mod Looking

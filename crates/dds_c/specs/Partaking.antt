@@ -50,7 +50,7 @@ Turns step (Some old) code new = IsSomeAnd new (Turned step old code)
 abbrev pub IsLeft : Step
 IsLeft a t b u = (b ≡ a) × Leaves a t u
 
--- The call is one step, what came of it is kept likewise, and the number is that of its reply.
+-- The call is one step or refused, what came of it is kept likewise, and the number is that of its reply.
 pub record Answered (old : Member) (call : Call) (number : ℕ) (new : Member) : Type 0 where
   pub calls : Calls call old.participant no_turn new.reply new.participant new.turn
   pub code : number ≡ code_number new.reply

@@ -23,6 +23,7 @@ mod out;
 pub mod participant;
 pub mod participant_answers;
 pub mod participant_events;
+pub mod participant_looks;
 mod parts;
 mod peer;
 pub mod reading;

@@ -15,9 +15,6 @@ use crate::member::Member;
 use crate::membership::Membership;
 use crate::out::{FlatInfo, copy_out};
 use dds_base::{Code, Guid};
-use dds_domain::Participant;
-use dds_exchange::NamedEnd;
-use rtps_announcements::EndpointKind;
 use rtps_discovery::{Packet, Told as Presence};
 use rtps_matching::Told;
 use std::alloc::Global;
@@ -48,9 +45,6 @@ pub struct FlatPresence {
     /// Of its GUIDs.
     pub prefix: [u8; 12],
 }
-
-/// How many writers a peer has at most.
-const MAX_WRITERS: u8 = 16;
 
 fn datagram_out(
     datagrams: &[Packet],
@@ -138,7 +132,7 @@ pub extern "C" fn cw_participant_sample(
 }
 
 /// The sixteen octets of a GUID.
-fn octets_of(guid: Guid) -> [u8; 16]
+pub(crate) fn octets_of(guid: Guid) -> [u8; 16]
     ensures { result ≡ octets_of guid }
 {
     let mut octets = [0; 16];
@@ -284,37 +278,4 @@ pub extern "C" fn cw_participant_text(
     let code = text_out(alloc, &member, buffer, needed);
     participant.put(member);
     code
-}
-
-/// Whether a reader has not acknowledged all changes of a writer of ours that it is matched with.
-fn is_reader_behind(participant: &Participant, reader: &NamedEnd) -> bool {
-    (1..=MAX_WRITERS).any(|writer| match participant.pair(writer, reader.name) {
-        Some(pair) => pair.is_behind,
-        None => false,
-    })
-}
-
-/// Whether some reader has not acknowledged all changes of ours.
-fn is_behind(participant: &Participant) -> bool {
-    participant.named().iter().any(|end| match end.kind {
-        EndpointKind::Writer => false,
-        EndpointKind::Reader => is_reader_behind(participant, end),
-    })
-}
-
-/// Whether some matched reliable reader has not acknowledged all that the writers of the participant wrote: 1, else 0, as
-/// where none is open.
-///
-/// RTPS 2.5, 8.4.7 (StatefulWriter: unacked_changes).
-#[unsafe(no_mangle)]
-pub extern "C" fn cw_participant_is_behind(alloc: Global, participant: &mut Membership) -> u8
-    // Nothing happens to the participant.
-    ensures keeps { participant.new.held.member ≡ participant.old.held.member }
-{
-    let Some(member) = participant.take(alloc) else {
-        return 0;
-    };
-    let behind = is_behind(&member.participant);
-    participant.put(member);
-    u8::from(behind)
 }

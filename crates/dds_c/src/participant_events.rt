@@ -1,6 +1,7 @@
 //! What happens to a participant: datagrams that come, time that goes on, that it leaves, and its calls.
 //!
 //! A writer or a reader is named by its number, from 1. What comes of an event takes the place of what came of the last one.
+//! A call whose value or key is not of the type of its writer's topic is refused by BAD_PARAMETER.
 //! DDS 1.4, 2.2.2.4 and 2.2.2.5 (DataWriter, DataReader); RTPS 2.5, 8.5 (discovery). The interface for C is this project's
 //! own.
 
@@ -105,7 +106,8 @@ fn call(alloc: Global, participant: &mut Membership, call: Call) -> u8
     code
 }
 
-/// Registers an instance (DDS 1.4, 2.2.2.4, register_instance). It is refused as `Call::Register`.
+/// Registers an instance (DDS 1.4, 2.2.2.4, register_instance). It is refused as `Call::Register`, and where the type has no
+/// such key, or one that is an MD5.
 #[unsafe(no_mangle)]
 pub extern "C" fn cw_participant_register(
     alloc: Global,
@@ -113,7 +115,7 @@ pub extern "C" fn cw_participant_register(
     writer: u8,
     key: &[u8; 16],
 ) -> u8
-    // It is one step of its peer.
+    // It is one step of its peer, or is refused where the key does not fit.
     ensures step { Happens participant.old.held.member
         (Register writer (record { 0 = key.now })) result participant.new.held.member }
 {
@@ -122,7 +124,8 @@ pub extern "C" fn cw_participant_register(
 }
 
 /// Writes a value of an instance (DDS 1.4, 2.2.2.4, write): of a topic without a key the key is sixteen zeros. It is
-/// refused as `Call::Write`, and by MEMORY where there is none for the copy of the value; then nothing changes.
+/// refused as `Call::Write`, where the value is none of the type or has another key, and by MEMORY where there is none for
+/// the copy of the value; then nothing changes.
 #[unsafe(no_mangle)]
 pub extern "C" fn cw_participant_write(
     alloc: Global,
@@ -131,7 +134,7 @@ pub extern "C" fn cw_participant_write(
     key: &[u8; 16],
     value: &[u8],
 ) -> u8
-    // It is one step of its peer, or nothing changes.
+    // It is one step of its peer, or is refused where the value does not fit, or nothing changes.
     ensures step { HappensCopied participant.old.held.member
         (Write writer (record { 0 = key.now }) value.now) result participant.new.held.member }
 {
@@ -146,7 +149,7 @@ pub extern "C" fn cw_participant_write(
     call(alloc, participant, asked)
 }
 
-/// Disposes an instance (DDS 1.4, 2.2.2.4, dispose). It is refused as `Call::Dispose`.
+/// Disposes an instance (DDS 1.4, 2.2.2.4, dispose). It is refused as `Call::Dispose`, and as `cw_participant_register`.
 #[unsafe(no_mangle)]
 pub extern "C" fn cw_participant_dispose(
     alloc: Global,
@@ -154,7 +157,7 @@ pub extern "C" fn cw_participant_dispose(
     writer: u8,
     key: &[u8; 16],
 ) -> u8
-    // It is one step of its peer.
+    // It is one step of its peer, or is refused where the key does not fit.
     ensures step { Happens participant.old.held.member
         (Dispose writer (record { 0 = key.now })) result participant.new.held.member }
 {
@@ -162,7 +165,8 @@ pub extern "C" fn cw_participant_dispose(
     call(alloc, participant, Call::Dispose { writer, key })
 }
 
-/// Ends the registration of an instance (DDS 1.4, 2.2.2.4, unregister_instance). It is refused as `Call::Unregister`.
+/// Ends the registration of an instance (DDS 1.4, 2.2.2.4, unregister_instance). It is refused as `Call::Unregister`, and as
+/// `cw_participant_register`.
 #[unsafe(no_mangle)]
 pub extern "C" fn cw_participant_unregister(
     alloc: Global,
@@ -170,7 +174,7 @@ pub extern "C" fn cw_participant_unregister(
     writer: u8,
     key: &[u8; 16],
 ) -> u8
-    // It is one step of its peer.
+    // It is one step of its peer, or is refused where the key does not fit.
     ensures step { Happens participant.old.held.member
         (Unregister writer (record { 0 = key.now })) result participant.new.held.member }
 {

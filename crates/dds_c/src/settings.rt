@@ -195,10 +195,11 @@ fn name_in(octets: &[u8]) -> &[u8]
     cut(octets, zero_in(octets))
 }
 
-fn kind_of(flat: &FlatEndpoint) -> Option<EndpointKind>
-    ensures { result ≡ kind_of flat.now.kind }
+/// A writer or a reader.
+pub(crate) fn kind_of(kind: u8) -> Option<EndpointKind>
+    ensures { result ≡ kind_of kind }
 {
-    match flat.kind {
+    match kind {
         1 => Some(EndpointKind::Writer),
         2 => Some(EndpointKind::Reader),
         _ => None,
@@ -309,7 +310,7 @@ fn our_end(
     ensures refused { IfErr result (λ code. (code ≡ Memory)
         ⊎ ((code ≡ BadParameter) × IsNoEnd prefix.now fields.now number flat.now)) }
 {
-    let Some(kind) = kind_of(flat) else {
+    let Some(kind) = kind_of(flat.kind) else {
         return Err(Code::BadParameter);
     };
     if flat.carries >= CARRIED_END {

@@ -1,2 +1,4 @@
 mod Laws
 mod Pieces
+mod Matching
+mod Adding

@@ -5,3 +5,4 @@ pub mod Opening
 pub mod Fragmented
 pub mod Sharings
 pub mod Participants
+pub mod Matched

@@ -1,14 +1,17 @@
 -- A participant (DDS 1.4, 2.2.2.2.1: DomainParticipant; RTPS 2.5, 8.5: discovery): discovery by the steps of dds_discovery, and our
 -- peer by those of Sharings. A participant a becomes b, and a turn t becomes u. Where memory is wanting what came or goes is lost,
 -- and what is left to do is done later.
-use Rattle.std.specs.Prelude.{◌≡◌, ◌⊎◌, ℕ, zero, suc, ◌-◌, ◌^◌, ◌++◌, Bool, true, false, List, [], max, Option, None, ⊤}
-use Rattle.std.specs.List.{fold}
+use Rattle.std.specs.Prelude.{◌≡◌, ◌⊎◌, ℕ, zero, suc, ◌-◌, ◌^◌, ◌++◌, ◌∷◌, Bool, true, false, List, [], max, Option, None, ⊤}
+use Rattle.std.specs.List.{fold, list_any}
 use Rattle.dds_base.specs.declared.code.Code.{Code}
 use Rattle.dds_base.specs.declared.mask.Masks.{Masks}
+use Rattle.dds_base.specs.declared.guid.GuidPrefix.{GuidPrefix}
+use Rattle.dds_base.specs.Checked.{same_prefix}
 use Rattle.dds_base.specs.Refusal.{Refuses}
 use Rattle.dds_core.specs.Opening.{core_refusal}
 use Rattle.dds_machine.specs.declared.call.Call.{Call}
 use Rattle.dds_machine.specs.declared.reply.Reply.{Reply}
+use Rattle.dds_machine.specs.declared.reply.Reply.TheVariants.{Refused}
 use Rattle.dds_protocol.specs.declared.event.Event.TheVariants.{Call as Calling, Tick}
 use Rattle.rtps_discovery.specs.declared.discovery.Settings.{Settings}
 use Rattle.rtps_discovery.specs.declared.packet.Packet.{Packet as Datagram}
@@ -16,11 +19,13 @@ use Rattle.rtps_discovery.specs.declared.row.Told.{Told as Presence}
 use Rattle.rtps_discovery.specs.Steps.{CantBeAnnounced, farewells, sent_at, told_at}
 use Rattle.rtps_matching.specs.declared.end.End.{End}
 use Rattle.rtps_matching.specs.declared.told.Told.{Told}
+use Rattle.rtps_matching.specs.Matches.{is_named}
 use Rattle.dds_discovery.specs.declared.serving.Done.{Done as Doing}
 use Rattle.dds_discovery.specs.declared.discovery.Step.TheVariants.{Done}
 use Rattle.dds_discovery.specs.Events.{Delivers, added, opened, ticked}
 use Rattle.dds_discovery.specs.States.{State as Discovery, due}
 use Rattle.dds_discovery.specs.Steps.{IsStep}
+use Rattle.dds_exchange.specs.Fitting.{Fits}
 use Rattle.dds_domain.specs.declared.opening.Unopened.{Unopened}
 use Rattle.dds_domain.specs.declared.opening.Unopened.TheVariants.{Endpoints}
 use Rattle.dds_domain.specs.Opening.{State as Parts, config_of}
@@ -53,16 +58,25 @@ pub record IsOpened (settings : Settings) (most : ℕ) (p : Parts) (a : State) :
   pub sharing : IsSharing settings.participant.prefix p.writers p.readers p.own_writers p.own_readers p.names a.sharing
   pub left : a.left ≡ []
 
+-- One of our endpoints is not in our name, or has the name of one before it.
+pub record CantBeAdded (prefix : GuidPrefix) (ends : List End) (code : Code) : Type 0 where
+  pub before : List End
+  pub end : End
+  pub rest : List End
+  pub stands : ends ≡ before ++ end ∷ rest
+  pub cause : ((code ≡ Code.BadParameter) × (same_prefix end.endpoint.guid.prefix prefix ≡ false))
+      ⊎ ((code ≡ Code.PreconditionNotMet) × (list_any (is_named end.endpoint.guid) before ≡ true))
+
 -- why discovery does not begin
-abbrev pub IsUnbegun : Settings → Unopened → Type 0
-IsUnbegun settings Unopened.Settings = CantBeAnnounced settings.domain settings.participant
-IsUnbegun settings (Endpoints code) = (code ≡ Code.BadParameter) ⊎ (code ≡ Code.PreconditionNotMet)
-IsUnbegun settings Unopened.Memory = ⊤
+abbrev pub IsUnbegun : Settings → List End → Unopened → Type 0
+IsUnbegun settings ends Unopened.Settings = CantBeAnnounced settings.domain settings.participant
+IsUnbegun settings ends (Endpoints code) = CantBeAdded settings.participant.prefix ends code
+IsUnbegun settings ends Unopened.Memory = ⊤
 
 -- why a participant does not begin
 abbrev pub IsRefused : Settings → Parts → Unopened → Type 0
 IsRefused settings p cause =
-    IsUnbegun settings cause
+    IsUnbegun settings p.ends cause
     ⊎ ((code : Code) × (cause ≡ unopened code)
     × Refuses (core_refusal (config_of settings.participant.prefix p.writers p.readers).peers 1) code)
 
@@ -167,10 +181,21 @@ pub record Ticks (moment : ℕ) (a : State) (t : Turn) (b : State) (u : Turn) : 
   pub happens : Happens settled.discovery.participants.rows (Tick moment) settled.sharing second reply b.sharing u
   pub rest : b ≡ record settled { sharing = b.sharing }
 
--- A call is one step of our peer.
-pub record Calls (call : Call) (a : State) (t : Turn) (reply : Reply) (b : State) (u : Turn) : Type 0 where
+-- A call is one step of our peer,
+pub record MakesCall (call : Call) (a : State) (t : Turn) (reply : Reply) (b : State) (u : Turn) : Type 0 where
+  pub fits : Fits a.sharing.exchange.writers call
   pub happens : Happens a.discovery.participants.rows (Calling call) a.sharing t reply b.sharing u
   pub rest : b ≡ record a { sharing = b.sharing }
+
+-- or is refused, as its value or its key is none of what the topic of its writer carries: then nothing changes.
+pub record RefusesCall (call : Call) (a : State) (t : Turn) (reply : Reply) (b : State) (u : Turn) : Type 0 where
+  pub misfit : Fits a.sharing.exchange.writers call → ⊥
+  pub answers : reply ≡ Refused Code.BadParameter
+  pub same : b ≡ a
+  pub nothing : u ≡ t
+
+abbrev pub Calls : Call → State → Turn → Reply → State → Turn → Type 0
+Calls call a t reply b u = MakesCall call a t reply b u ⊎ RefusesCall call a t reply b u
 
 -- What we say as we leave.
 abbrev pub Leaves : State → Turn → Turn → Type 0

@@ -20,6 +20,7 @@
 
 mod asking;
 mod early;
+mod matched;
 mod opening;
 mod participant;
 mod sharing;

@@ -4,16 +4,20 @@
 //!
 //! DDS 1.4, 2.2.2.2.1 (DomainParticipant); RTPS 2.5, 8.5 (discovery).
 
-ghost use Rattle.std.specs.Prelude.{◌≡◌, ◌⊎◌, length, IfOk, IfErr, OnOk, OnErr};
+ghost use Rattle.std.specs.Prelude.{◌≡◌, ◌⊎◌, [], length, None, IfOk, IfErr, OnOk, OnErr};
 ghost use Rattle.std.specs.List.{fold};
+ghost use Rattle.std.specs.Option.{option_copied};
 ghost use Rattle.dds_core.specs.Pairs.{IsPair};
 ghost use Rattle.dds_core.specs.Standing.{StandsFor};
 ghost use Rattle.dds_protocol.specs.Peer.{Peer};
 ghost use Rattle.dds_protocol.specs.Roster.{Roster};
 ghost use Rattle.rtps_matching.specs.Misfits.{misfits};
+ghost use Rattle.dds_exchange.specs.Behind.{is_behind};
+ghost use Rattle.dds_domain.specs.Matched.{AreMatched, own_at};
 ghost use Rattle.dds_domain.specs.Opening.{no_parts, with_end};
-ghost use Rattle.dds_domain.specs.Participants.{Calls, GoesOn, Hears, HearsAtDiscovery, IsOpened, IsRefused, IsUnbegun, Leaves, Settles, SettlesOne, StepsOne, Tells, Ticks, TicksAtDiscovery, adding, begun, unopened};
+ghost use Rattle.dds_domain.specs.Participants.{Calls, CantBeAdded, GoesOn, Hears, HearsAtDiscovery, IsOpened, IsRefused, IsUnbegun, Leaves, Settles, SettlesOne, StepsOne, Tells, Ticks, TicksAtDiscovery, adding, begun, unopened};
 
+use crate::matched::{matched_ends, own_named};
 use crate::opening::{OurEnd, Unopened, parts_of};
 use crate::sharing::Sharing;
 use crate::turn::Turn;
@@ -23,6 +27,7 @@ use dds_discovery::{Discovery, Done, Step};
 use dds_exchange::NamedEnd;
 use dds_machine::{Call, Reply};
 use dds_protocol::Event;
+use rtps_announcements::EndpointKind;
 use rtps_discovery::{Row, Settings};
 use rtps_matching::{End, Far, Misfitting, Told};
 use std::alloc::Global;
@@ -55,8 +60,9 @@ impl Model for Participant {
 
 /// Our endpoints are announced. Nobody is known, so none is matched.
 fn add_all(alloc: Global, discovery: &mut Discovery, ends: Vec<End>) -> Result<(), Code>
+    requires none { discovery.old.endpoints.own ≡ [] }
     ensures added { OnOk result (discovery.new ≡ fold adding discovery.old ends.items) }
-    ensures refused { IfErr result (λ e. (e ≡ Code.BadParameter) ⊎ ((e ≡ Code.PreconditionNotMet) ⊎ (e ≡ Code.Memory))) }
+    ensures refused { IfErr result (λ e. (e ≡ Code.Memory) ⊎ CantBeAdded discovery.old.own ends.items e) }
 {
     for end in ends {
         let _ = discovery.add(alloc, end)?;
@@ -82,7 +88,7 @@ fn begin(
     ends: Vec<End>,
 ) -> Result<Discovery, Unopened>
     ensures begun { IfOk result (λ d. d ≡ begun settings most ends.items) }
-    ensures refused { IfErr result (IsUnbegun settings) }
+    ensures refused { IfErr result (IsUnbegun settings ends.items) }
 {
     let mut discovery = match Discovery::open(alloc, settings, most) {
         Ok(discovery) => discovery,
@@ -200,6 +206,50 @@ impl Participant {
         self.sharing.exchange().pair(writer, reader)
     }
 
+    /// Whether a matched reader has not acknowledged all changes of our writer of this number: it is what waiting for
+    /// acknowledgments looks at. A best-effort reader acknowledges none, and is never behind.
+    ///
+    /// DDS 1.4, 2.2.2.4 (wait_for_acknowledgments); RTPS 2.5, 8.4.7 (ReaderProxy: unacked_changes).
+    pub fn is_behind(&self, writer: u8) -> bool
+        // It is so exactly if one that has a name is behind, in each state that our peer stands for.
+        ensures behind { (roster : Roster) (peer : Peer)
+            → StandsFor self.now.sharing.exchange.core.filtered.peer roster peer
+            → result ≡ is_behind peer.part self.now.sharing.exchange.named writer }
+    {
+        self.sharing.exchange().is_behind(writer)
+    }
+
+    /// Our writer or our reader of this number, as it is announced.
+    fn own_at(&self, kind: EndpointKind, number: u8) -> Option<&End>
+        ensures { option_copied result ≡ own_at self.now kind number }
+    {
+        match self.sharing.exchange().guid(kind, number) {
+            Some(guid) => own_named(self.discovery.own(), &guid),
+            None => None,
+        }
+    }
+
+    /// The endpoints of others that our writer or our reader of this number is matched with, in the order of their names. What
+    /// they announced is found among `far`, by their GUIDs.
+    ///
+    /// # Errors
+    ///
+    /// `BadParameter` where there is no such writer or reader; `Memory` where there is none.
+    ///
+    /// DDS 1.4, 2.2.2.4 (get_matched_subscriptions), 2.2.2.5 (get_matched_publications).
+    pub fn matched(&self, kind: EndpointKind, number: u8) -> Result<Vec<NamedEnd>, Code>
+        // They are those whose participant is there, and whose announcement fits what we announce.
+        ensures matched { IfOk result (λ ends. AreMatched self.now kind number ends.items) }
+        // A refusal is for want of memory, or as there is none of this number.
+        ensures refused { IfErr result (λ e. (e ≡ Code.Memory)
+            ⊎ ((e ≡ Code.BadParameter) × (own_at self.now kind number ≡ None))) }
+    {
+        match self.own_at(kind, number) {
+            Some(own) => Ok(matched_ends(self.alloc, own, self.far(), self.named())?),
+            None => Err(Code::BadParameter),
+        }
+    }
+
     /// Our peer is told of what discovery told last.
     fn tell(&mut self, turn: &mut Turn) -> Result<(), Code>
         ensures told { OnOk result (Tells self.old turn.old self.new turn.new) }
@@ -311,13 +361,17 @@ impl Participant {
         let _ = self.sharing.happen(self.discovery.rows(), tick, turn);
     }
 
-    /// A call of the application.
+    /// A call of the application. One whose value or key is not of the type of its writer's topic, so that others would take
+    /// a wrong one, is refused with `BadParameter`.
     ///
     /// DDS 1.4, 2.2.2.4 and 2.2.2.5 (DataWriter, DataReader).
     pub fn call(&mut self, call: Call, turn: &mut Turn) -> Reply
-        // It is one step of our peer.
+        // It is one step of our peer, or is refused and changes nothing, exactly where it does not fit.
         ensures called { Calls call self.old turn.old result self.new turn.new }
     {
+        if !self.sharing.exchange().fits(&call) {
+            return Reply::Refused(Code::BadParameter);
+        }
         self.sharing
             .happen(self.discovery.rows(), Event::Call(call), turn)
     }

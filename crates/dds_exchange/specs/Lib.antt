@@ -7,3 +7,5 @@ pub mod Opening
 pub mod Going
 pub mod States
 pub mod Exchanges
+pub mod Fitting
+pub mod Behind

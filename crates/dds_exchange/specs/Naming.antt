@@ -25,6 +25,19 @@ small n = if nat_lt n 256 then Some n else None
 abbrev pub end_number : EntityId → List OwnEnd → Option ℕ
 end_number entity ends = option_and_then (λ place. small (place + 1)) (position (has_entity entity) ends)
 
+-- the one of a number, from 1
+abbrev pub end_at : ℕ → List OwnEnd → Option OwnEnd
+end_at number ends = if number == 0 then None else slice_get ends (number - 1)
+
+-- what one is called, behind what our GUIDs begin with
+abbrev pub guid_of : GuidPrefix → OwnEnd → Guid
+guid_of own end = record { prefix = own; entity = end.entity }
+
+-- what our writer or our reader of a number is called on the network
+abbrev pub guid_at : GuidPrefix → EndpointKind → ℕ → List OwnEnd → List OwnEnd → Option Guid
+guid_at own Writer number writers readers = option_map (guid_of own) (end_at number writers)
+guid_at own Reader number writers readers = option_map (guid_of own) (end_at number readers)
+
 -- an endpoint of another participant is called so on the network
 abbrev pub is_named : Guid → NamedEnd → Bool
 is_named guid end = same_guid end.guid guid

@@ -4,23 +4,27 @@
 //!
 //! DDS 1.4, 2.2.2.2.1 (DomainParticipant); RTPS 2.5, 8.4 (behaviour), 8.5.4 (SEDP).
 
-ghost use Rattle.std.specs.Prelude.{◌≡◌, ◌++◌, drop, is_some, length, map, slice_get, IfOk, IfErr, OnOk, OnErr};
+ghost use Rattle.std.specs.Prelude.{◌≡◌, ◌↔◌, ◌++◌, IsTrue, drop, is_some, length, map, slice_get, IfOk, IfErr, OnOk, OnErr};
 ghost use Rattle.dds_base.specs.Refusal.{Refuses};
 ghost use Rattle.dds_core.specs.Opening.{core_refusal};
 ghost use Rattle.dds_core.specs.Pairs.{IsPair};
 ghost use Rattle.dds_core.specs.Standing.{StandsFor};
-ghost use Rattle.dds_machine.specs.Part.{how_of, is_attached, own_proxies};
+ghost use Rattle.dds_machine.specs.Part.{how_of, is_attached, is_reader_behind, own_proxies, own_writer};
 ghost use Rattle.dds_network.specs.Networks.{Does};
 ghost use Rattle.dds_protocol.specs.Peer.{Peer as PeerState};
 ghost use Rattle.dds_protocol.specs.Roster.{Roster};
 ghost use Rattle.dds_exchange.specs.Exchanges.{Calls, Finds, GoesOut, Hears, IsOpened, MakesCall, found_no_memory, known_of, other_kind, own_end};
 ghost use Rattle.dds_exchange.specs.Told.{due_of};
+ghost use Rattle.dds_exchange.specs.Behind.{is_behind, is_end_behind};
+ghost use Rattle.dds_exchange.specs.Fitting.{Fits};
+ghost use Rattle.dds_exchange.specs.Naming.{guid_at};
 
-use crate::ends::{OwnEnd, end_number};
+use crate::ends::{OwnEnd, end_number, guid_at};
+use crate::fitting::fits;
 use crate::going::{Known, address_of, turned_in, turned_out};
 use crate::naming::{NamedEnd, name, prefix_of};
 use crate::told::{Due, call_of, dues_of, far_of, own_of};
-use dds_base::{Code, Config, Endpoint, EntityId, GuidPrefix};
+use dds_base::{Code, Config, Endpoint, EntityId, Guid, GuidPrefix};
 use dds_core::{Core, Pair};
 use dds_machine::{Call, Reply};
 use dds_network::{NoFilter, NoListener};
@@ -137,6 +141,70 @@ impl Exchange {
             → result ≡ is_attached (how_of (own_proxies peer.part reader) writer) }
     {
         self.core.is_matched(reader, writer)
+    }
+
+    /// Whether a reader has not acknowledged all changes of a writer of ours that it is matched with.
+    fn is_reader_behind(&self, writer: u8, reader: Endpoint) -> bool
+        ensures { (roster : Roster) (peer : PeerState)
+            → StandsFor self.now.core.filtered.peer roster peer
+            → result ≡ is_reader_behind (own_writer peer.part writer) reader }
+    {
+        match self.pair(writer, reader) {
+            Some(pair) => pair.is_behind,
+            None => false,
+        }
+    }
+
+    /// The same of an endpoint that has a name.
+    fn is_end_behind(&self, writer: u8, end: &NamedEnd) -> bool
+        ensures { (roster : Roster) (peer : PeerState)
+            → StandsFor self.now.core.filtered.peer roster peer
+            → result ≡ is_end_behind (own_writer peer.part writer) end.now }
+    {
+        match end.kind {
+            EndpointKind::Writer => false,
+            EndpointKind::Reader => self.is_reader_behind(writer, end.name),
+        }
+    }
+
+    /// Whether a matched reader has not acknowledged all changes of a writer of ours; a best-effort one acknowledges none, and
+    /// is never behind.
+    ///
+    /// DDS 1.4, 2.2.2.4 (wait_for_acknowledgments); RTPS 2.5, 8.4.7 (ReaderProxy: unacked_changes).
+    pub fn is_behind(&self, writer: u8) -> bool
+        // It is so exactly if one that has a name is behind, in each state that our peer stands for.
+        ensures behind { (roster : Roster) (peer : PeerState)
+            → StandsFor self.now.core.filtered.peer roster peer
+            → result ≡ is_behind peer.part self.now.named writer }
+    {
+        for end in &self.named {
+            if self.is_end_behind(writer, end) {
+                return true;
+            }
+        }
+        false
+    }
+
+    /// Whether what a call asks of a writer of ours is of the type that its topic carries: a value is a payload of it and has the
+    /// key, and a key can be said alone. Each call fits that names no key, or none of our writers.
+    ///
+    /// RTPS 2.5, clause 10 (SerializedPayload), 9.6.4.8 (KeyHash).
+    pub fn fits(&self, call: &Call) -> bool
+        // It is so exactly where the adapter says so of the change.
+        ensures fits { IsTrue result ↔ Fits self.now.writers call.now }
+    {
+        fits(&self.writers, call)
+    }
+
+    /// What a writer or a reader of ours is called on the network, by its number; `None` where there is none.
+    pub fn guid(&self, kind: EndpointKind, number: u8) -> Option<Guid>
+        // It is that of the one of this number.
+        ensures guid { result ≡ guid_at self.now.own kind number self.now.writers self.now.readers }
+    {
+        match kind {
+            EndpointKind::Writer => guid_at(self.own, &self.writers, number),
+            EndpointKind::Reader => guid_at(self.own, &self.readers, number),
+        }
     }
 
     /// How many readers we have.

@@ -12,6 +12,7 @@ mod carried;
 mod ends;
 mod entities;
 mod exchange;
+mod fitting;
 mod going;
 mod naming;
 mod opening;

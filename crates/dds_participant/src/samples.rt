@@ -7,11 +7,10 @@ ghost use Rattle.dds_participant.specs.declared.samples.TypeKind.TheVariants.{Ke
 use crate::failure::Failure;
 use dds_base::{Key, Masks, Octets, Selection, USUAL_VALUE};
 use dds_domain::{OurEnd, Participant, Turn};
-use dds_exchange::{Carried, NamedEnd};
+use dds_exchange::Carried;
 use dds_machine::{Call, Reply};
 use dds_script::{Fault, Side, TranscriptLine, call_of, value, words_of};
 use rtps_adapter::{Encoding, KeyField};
-use rtps_announcements::EndpointKind;
 use rtps_matching::End;
 use std::alloc::{AllocError, Global};
 
@@ -170,18 +169,7 @@ pub fn take_line(
     Ok(())
 }
 
-/// Whether a reader has not acknowledged all changes of a writer of ours that it is matched with.
-fn is_reader_behind(participant: &Participant, reader: &NamedEnd) -> bool {
-    (1..=MAX_WRITERS).any(|writer| match participant.pair(writer, reader.name) {
-        Some(pair) => pair.is_behind,
-        None => false,
-    })
-}
-
 /// Whether some reader has not acknowledged all changes of ours.
 pub fn is_behind(participant: &Participant) -> bool {
-    participant.named().iter().any(|end| match end.kind {
-        EndpointKind::Writer => false,
-        EndpointKind::Reader => is_reader_behind(participant, end),
-    })
+    (1..=MAX_WRITERS).any(|writer| participant.is_behind(writer))
 }
