@@ -5,7 +5,8 @@ use Rattle.dds_protocol.specs.declared.event.Packet.{Packet}
 use Rattle.rtps_discovery.specs.declared.row.Row.{Row}
 use Rattle.dds_exchange.specs.States.{State as Exchange}
 use Rattle.dds_domain.specs.Participants.{GoesOne, Runs, State as Participant, more}
-use Rattle.dds_domain.specs.Sharings.{Delivers, DeliversAll, Meetings, MeetsOne, SendsAll, SendsOut, State, delivered_more, met_more, sent_more}
+use Rattle.dds_domain.specs.Sharings.{ComesSo, Delivers, DeliversAll, Meetings, MeetsOne, SendsAll, SendsOut, State, TakesIt}
+use Rattle.dds_domain.specs.Sharings.{came_more, delivered_more, met_more, sent_more}
 use Rattle.dds_domain.specs.Turns.{State as Turn}
 
 -- one packet more goes out
@@ -37,3 +38,10 @@ pub meetings_next : (n : ℕ) (e : Exchange) (t : Turn) (f : Exchange) (u : Turn
     → MeetsOne f u g v → Meetings (n + 1) e t g v
 meetings_next n e t f u g v so_far step =
     subst (λ (m : ℕ). Meetings m e t g v) (sym (add-one n)) (met_more n e t f u g v so_far step)
+
+-- one that waited more
+pub comes_next : (n : ℕ) (rows : List Row) (bytes : List ℕ) (s : State) (t : Turn) (r : State) (u : Turn) (taken q : State)
+    (v : Turn) → ComesSo n rows s t r u → TakesIt r bytes taken → Delivers rows bytes taken u q v → ComesSo (n + 1) rows s t q v
+comes_next n rows bytes s t r u taken q v comes takes delivers =
+    subst (λ (m : ℕ). ComesSo m rows s t q v) (sym (add-one n))
+    (came_more n rows bytes s t r u taken q v comes takes delivers)

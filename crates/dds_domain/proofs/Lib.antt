@@ -1,4 +1,5 @@
 mod Laws
+mod HeardLaws
 mod Pieces
 mod Matching
 mod Adding

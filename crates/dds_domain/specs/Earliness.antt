@@ -3,9 +3,13 @@ use Rattle.std.specs.Prelude.{ℕ, nat_lt, ◌++◌, ◌∷◌, List, [], drop, 
 use Rattle.dds_base.specs.declared.guid.Guid.{Guid}
 use Rattle.dds_domain.specs.declared.early.Waiting.{Waiting}
 
--- the last 16
+-- so many wait at most
+abbrev pub most_early : ℕ
+most_early = 16
+
+-- the last of them
 abbrev pub newest : List Waiting → List Waiting
-newest waiting = if nat_lt 16 (length waiting) then drop 1 waiting else waiting
+newest waiting = if nat_lt most_early (length waiting) then drop 1 waiting else waiting
 
 -- one more waits
 abbrev pub kept : Guid → List ℕ → List Waiting → List Waiting

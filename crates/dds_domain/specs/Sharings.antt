@@ -1,7 +1,7 @@
 -- Our peer, as datagrams of the network reach it (RTPS 2.5, 8.3.4: the message receiver). What is said here of what it does is by
 -- the steps of dds_exchange, each of which is one of the machine; s becomes r, and a turn t becomes u. Where memory is wanting
 -- what came or goes is lost.
-use Rattle.std.specs.Prelude.{◌≡◌, ◌⊎◌, ℕ, zero, suc, ◌++◌, ◌∷◌, Bool, List, [], length, map, slice_get, Option, Some, None, MatchBool}
+use Rattle.std.specs.Prelude.{◌≡◌, ◌⊎◌, ℕ, zero, suc, ◌++◌, ◌∷◌, Bool, true, false, List, [], length, map, slice_get, Option, Some, None, MatchBool}
 use Rattle.dds_base.specs.declared.config.ReaderConfig.{ReaderConfig}
 use Rattle.dds_base.specs.declared.config.WriterConfig.{WriterConfig}
 use Rattle.dds_base.specs.declared.guid.Guid.{Guid}
@@ -24,8 +24,9 @@ use Rattle.dds_exchange.specs.Going.{address_of}
 use Rattle.dds_exchange.specs.States.{State as Exchange}
 use Rattle.dds_exchange.specs.Told.{due_of}
 use Rattle.dds_domain.specs.declared.early.Waiting.{Waiting}
-use Rattle.dds_domain.specs.Earliness.{kept, without}
+use Rattle.dds_domain.specs.Earliness.{kept, most_early, without}
 use Rattle.dds_domain.specs.Fragmented.{HasFragment}
+use Rattle.dds_domain.specs.Heard.{IsHeardSo}
 use Rattle.dds_domain.specs.Opening.{config_of}
 use Rattle.dds_domain.specs.Turns.{MayLack, Records, Sends, State as Turn, lacking}
 
@@ -96,23 +97,40 @@ abbrev pub Tells : List Told → List Far → State → State → Type 0
 Tells told far s r =
     r ≡ with_exchange (record s.exchange { due = s.exchange.due ++ map (due_of far) told }) s
 
--- What waited waits no more, at most one of it.
+-- What waited for a writer that a reader of ours is matched with waits no more: one of it.
 pub record TakesIt (s : State) (bytes : List ℕ) (r : State) : Type 0 where
   pub place : ℕ
   pub waiting : Waiting
   pub at : slice_get s.early place ≡ Some waiting
+  pub heard : IsHeardSo true s.exchange waiting.writer
   pub same : bytes ≡ waiting.bytes
   pub rest : r ≡ record s { early = without place s.early }
 
+-- None waits for such a writer.
+abbrev pub NoneIsHeard : State → Type 0
+NoneIsHeard s = (place : ℕ) (waiting : Waiting) → slice_get s.early place ≡ Some waiting → IsHeardSo false s.exchange waiting.writer
+
+-- One at this place does, if there is one.
+abbrev pub IsFirstEarly : State → Option ℕ → Type 0
+IsFirstEarly s None = NoneIsHeard s
+IsFirstEarly s (Some place) =
+    (waiting : Waiting) × (slice_get s.early place ≡ Some waiting) × IsHeardSo true s.exchange waiting.writer
+
 abbrev pub TakesEarly : State → Option (List ℕ) → State → Type 0
-TakesEarly s None r = r ≡ s
+TakesEarly s None r = (r ≡ s) × NoneIsHeard s
 TakesEarly s (Some bytes) r = TakesIt s bytes r
 
--- What waited comes, one after the other.
-pub data ComesEarly : List Row → State → Turn → State → Turn → Type 0 where
-  came_none : (rows : List Row) (s : State) (t : Turn) → ComesEarly rows s t s t
-  came_more : (rows : List Row) (bytes : List ℕ) (s : State) (t : Turn) (r : State) (u : Turn) (taken : State) (q : State)
-      (v : Turn) → ComesEarly rows s t r u → TakesIt r bytes taken → Delivers rows bytes taken u q v → ComesEarly rows s t q v
+-- So many come, one after the other.
+pub data ComesSo : ℕ → List Row → State → Turn → State → Turn → Type 0 where
+  came_none : (rows : List Row) (s : State) (t : Turn) → ComesSo zero rows s t s t
+  came_more : (n : ℕ) (rows : List Row) (bytes : List ℕ) (s : State) (t : Turn) (r : State) (u : Turn) (taken : State) (q : State)
+      (v : Turn) → ComesSo n rows s t r u → TakesIt r bytes taken → Delivers rows bytes taken u q v → ComesSo (suc n) rows s t q v
+
+-- All of them come: until none waits for such a writer, or as many came as wait at most.
+pub record ComesEarly (rows : List Row) (s : State) (t : Turn) (r : State) (u : Turn) : Type 0 where
+  pub count : ℕ
+  pub comes : ComesSo count rows s t r u
+  pub all : (count ≡ most_early) ⊎ NoneIsHeard r
 
 -- The first that is due is done: where it is a call, that is recorded, and then one step of our peer.
 pub record Makes (call : Call) (e : Exchange) (t : Turn) (f : Exchange) (u : Turn) : Type 0 where
@@ -164,10 +182,11 @@ Meets rows s t r u = MeetsDue rows s t r u ⊎ ((slice_get s.exchange.due 0 ≡ 
 
 -- ---- a datagram
 
--- It may be kept until a writer is matched.
+-- It may be kept until a writer is matched that no reader of ours is matched with.
 abbrev pub KeepsEarly : List ℕ → State → Turn → State → Turn → Type 0
 KeepsEarly bytes s t r u =
-    ((writer : Guid) × (r ≡ record s { early = kept writer bytes s.early }) × (u ≡ t)) ⊎ ((r ≡ s) × MayLack t u)
+    ((writer : Guid) × IsHeardSo false s.exchange writer × (r ≡ record s { early = kept writer bytes s.early }) × (u ≡ t))
+    ⊎ ((r ≡ s) × MayLack t u)
 
 -- These are the messages that its fragments make whole; where memory is wanting those of its front.
 pub record WholeOf (bytes : List ℕ) (s : State) (t : Turn) (whole : List (List ℕ)) (r : State) (u : Turn) : Type 0 where

@@ -9,27 +9,24 @@ ghost use Rattle.std.specs.Prelude.{◌≡◌, ◌⊎◌, IfOk, IfErr, OnOk, OnE
 ghost use Rattle.dds_base.specs.Refusal.{Refuses};
 ghost use Rattle.dds_core.specs.Opening.{core_refusal};
 ghost use Rattle.dds_domain.specs.Opening.{config_of};
-ghost use Rattle.dds_domain.specs.Sharings.{Asks, ComesEarly, Delivers, DeliversAll, Happens, Hears, HearsFragments, IsOpened, KeepsEarly, Meets, MeetsAll, SendsAll, SendsOut, TakesEarly, Tells, WholeOf};
+ghost use Rattle.dds_domain.specs.Sharings.{Asks, ComesEarly, Delivers, DeliversAll, Happens, Hears, HearsFragments, IsFirstEarly, IsOpened, KeepsEarly, Meets, MeetsAll, SendsAll, SendsOut, TakesEarly, Tells, WholeOf};
 ghost use Rattle.dds_domain.specs.Turns.{MayLack};
 
 use crate::asking::{asking, first_alone, has_fragment};
 use crate::early::{Early, MOST_EARLY, heartbeat_of};
+use crate::heard::{is_heard, is_heard_end};
 use crate::opening::{Parts, config_of};
 use crate::telling::meet_all;
 use crate::turn::Turn;
 use dds_base::{Code, Guid, GuidPrefix, Octets};
-use dds_exchange::{Exchange, NamedEnd, address_of};
+use dds_exchange::{Exchange, address_of, far_of};
 use dds_machine::Reply;
 use dds_protocol::{Event, Packet};
-use rtps_announcements::EndpointKind;
 use rtps_discovery::{Packet as Datagram, Row};
 use rtps_fragments::Fragments;
 use rtps_matching::{Far, Told};
-use std::alloc::Global;
+use std::alloc::{AllocError, Global};
 use std::marker::Model;
-
-/// How many readers a peer has at most.
-const MAX_READERS: u8 = 16;
 
 /// Our peer, with those whom discovery matches it with.
 #[derive(Drop)]
@@ -58,24 +55,6 @@ impl Model for Sharing {
       readers = s.readers.items;
       asked = s.asked;
     } };
-}
-
-/// Whether it is a writer that a reader of ours is matched with.
-fn is_heard_end(exchange: &Exchange, end: &NamedEnd) -> bool {
-    match end.kind {
-        EndpointKind::Writer => {
-            (1..=MAX_READERS).any(|reader| exchange.is_matched(reader, end.name))
-        }
-        EndpointKind::Reader => false,
-    }
-}
-
-/// Whether it is called so, and a reader of ours is matched with it.
-fn is_heard(exchange: &Exchange, far: &Guid) -> bool {
-    match exchange.named().iter().find(|end| end.guid == *far) {
-        Some(end) => is_heard_end(exchange, end),
-        None => false,
-    }
 }
 
 impl Sharing {
@@ -172,7 +151,29 @@ impl Sharing {
         self.exchange.tell(self.alloc, told, far)
     }
 
-    /// Fragments are put together of those writers that readers of ours are matched with.
+    /// Fragments of a writer are put together if a reader of ours is matched with it.
+    fn know(&mut self, far: &Guid, turn: &mut Turn)
+        ensures rest { self.new ≡ record self.old { fragments = self.new.fragments } }
+        ensures memory { MayLack turn.old turn.new }
+    {
+        if !is_heard(&self.exchange, far) {
+            self.fragments.forget(far);
+        } else if self.fragments.know(self.alloc, *far).is_err() {
+            turn.lack();
+        }
+    }
+
+    /// So it is with these.
+    fn know_these(&mut self, ends: &[Guid], turn: &mut Turn)
+        ensures rest { self.new ≡ record self.old { fragments = self.new.fragments } }
+        ensures memory { MayLack turn.old turn.new }
+    {
+        for end in ends {
+            self.know(end, turn);
+        }
+    }
+
+    /// So it is with each that has a name.
     fn know_all(&mut self, turn: &mut Turn)
         ensures rest { self.new ≡ record self.old { fragments = self.new.fragments } }
         ensures memory { MayLack turn.old turn.new }
@@ -186,14 +187,37 @@ impl Sharing {
         }
     }
 
-    /// The first datagram that waits for a writer that a reader of ours is matched with by now.
+    /// The endpoints of others that what is due is about.
+    fn due_ends(&self) -> Result<Vec<Guid>, AllocError> {
+        let due = self.exchange.due();
+        let mut ends = Vec::with_capacity(self.alloc, due.len())?;
+        for one in due {
+            ends.push(far_of(one.told))?;
+        }
+        Ok(ends)
+    }
+
+    /// Where the first datagram stands that waits for a writer that a reader of ours is matched with by now.
+    fn first_early(&self) -> Option<usize>
+        ensures first { IsFirstEarly self.now result }
+    {
+        let waiting = self.early.waiting();
+        for place in 0..waiting.len() {
+            if is_heard(&self.exchange, &waiting[place].writer) {
+                return Some(place);
+            }
+        }
+        None
+    }
+
+    /// That datagram, which waits no more.
     fn next_early(&mut self) -> Option<Octets>
         ensures { TakesEarly self.old result self.new }
     {
-        let exchange = &self.exchange;
-        let mut waiting = self.early.waiting().iter();
-        let place = waiting.position(|one| is_heard(exchange, &one.writer))?;
-        self.early.take(place)
+        match self.first_early() {
+            Some(place) => self.early.take(place),
+            None => None,
+        }
     }
 
     /// What waited for the match of a writer comes.
@@ -202,7 +226,7 @@ impl Sharing {
     {
         for _count in 0..MOST_EARLY {
             let Some(bytes) = self.next_early() else {
-                break;
+                return;
             };
             self.deliver(rows, bytes.as_slice(), turn);
         }
@@ -225,8 +249,12 @@ impl Sharing {
         if !self.exchange.has_due() {
             return;
         }
+        let ends = self.due_ends();
         self.meet_due(turn);
-        self.know_all(turn);
+        match ends {
+            Ok(ends) => self.know_these(ends.as_slice(), turn),
+            Err(_) => self.know_all(turn),
+        }
         self.deliver_early(rows, turn);
     }
 

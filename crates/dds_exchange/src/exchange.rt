@@ -340,6 +340,14 @@ impl Exchange {
         self.due.len()
     }
 
+    /// What was told and is due, in its order.
+    pub fn due(&self) -> &[Due]
+        ensures due { result.now ≡ self.now.due }
+    {
+        let all = self.due.as_slice();
+        all
+    }
+
     /// A call of the application, or the time that goes on.
     ///
     /// DDS 1.4, 2.2.2.4 and 2.2.2.5 (DataWriter, DataReader).

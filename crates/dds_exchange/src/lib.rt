@@ -25,4 +25,4 @@ pub use exchange::Exchange;
 pub use going::{address_of, called_in};
 pub use naming::NamedEnd;
 pub use opening::{can_hold, reader_config, writer_config};
-pub use told::Due;
+pub use told::{Due, far_of};

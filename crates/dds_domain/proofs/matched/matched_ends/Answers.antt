@@ -1,4 +1,4 @@
-use Rattle.std.proofs.Common.{◌≡◌, ◌∙◌, Global, Vec, ap, sym}
+use Rattle.std.proofs.Common.{◌∙◌, Global, Vec, ap, sym}
 use Rattle.dds_exchange.specs.declared.naming.NamedEnd.{NamedEnd}
 use Rattle.dds_domain.specs.Matched.{is_matched_end}
 use Rattle.dds_domain.proofs.Matching.{kept_more, left_out}

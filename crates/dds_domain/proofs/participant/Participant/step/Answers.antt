@@ -1,4 +1,4 @@
-use Rattle.std.proofs.Common.{refl, rules}
+use Rattle.std.proofs.Common.{refl}
 use Rattle.dds_domain.proofs.participant.Participant.step.Goals as goal
 
 pub returns-in-Ok-Done : goal.returns-in-Ok-Done
