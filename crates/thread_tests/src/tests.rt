@@ -34,18 +34,45 @@ wait 0 => active 2
 setguard 2 0
 wait 0 => code 10";
 
+// What holds of the values is not handed on, so that whoever takes them goes by their type alone.
+fn with_one_more<T: Drop>(mut values: Vec<T>, value: T) -> Result<Vec<T>, Code> {
+    values.push(value)?;
+    Ok(values)
+}
+
+// What two passes do in one thread.
+fn use_alone<S: Peer<P>, P, R: Wait + Abort>(
+    rt: &R,
+    alloc: Global,
+    shared: &S,
+    first: &mut P,
+    second: &mut P,
+) -> Result<(), Code> {
+    assert!(rt; are_seen(rt, alloc, shared, first, second)?);
+    assert!(rt; comes_behind(rt, alloc, shared, first, second)?);
+    run_rows(rt, alloc, shared, first, ALONE)
+}
+
+// A pass is split, and both are used.
+fn split_and_use<S: Peer<P>, P: Drop, R: Wait + Abort>(
+    rt: &R,
+    alloc: Global,
+    shared: &S,
+    first: &mut P,
+) -> Result<P, Code> {
+    let mut second = shared.split(rt, first)?;
+    use_alone(rt, alloc, shared, first, &mut second)?;
+    Ok(second)
+}
+
 // What is done with a shared peer, recorded or flat, from its first pass to those of its two threads.
 fn use_peer<S: Peer<P> + Sync, P: Drop + Send, R: Threads + Wait + Abort + Sync>(
     rt: &R,
     alloc: Global,
     shared: &S,
-    first: P,
+    mut first: P,
 ) -> Result<(P, P), Code> {
-    let mut first = first;
-    let mut second = shared.split(rt, &mut first)?;
-    assert!(rt; are_seen(rt, alloc, shared, &mut first, &mut second)?);
-    assert!(rt; comes_behind(rt, alloc, shared, &mut first, &mut second)?);
-    run_rows(rt, alloc, shared, &mut first, ALONE)?;
+    let second = split_and_use(rt, alloc, shared, &mut first)?;
     let passes = run_both(rt, alloc, shared, (first, second), WAIT_FOR_ANOTHER)?;
     run_both(rt, alloc, shared, passes, TAKE_TURNS)
 }

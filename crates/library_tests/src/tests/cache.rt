@@ -55,6 +55,16 @@ fn come_numbered(alloc: Global, cache: &mut ReaderCache, count: u16) {
     }
 }
 
+/// How many samples a take of all gives.
+fn take_all(cache: &mut ReaderCache) -> usize {
+    let (max, masks) = (-1, Masks::ANY);
+    let selection = Selection::Any { max, masks };
+    match cache.access(AccessKind::Take, selection, &Everything) {
+        Ok(samples) => samples.as_slice().len(),
+        Err(_) => 0,
+    }
+}
+
 /// How many of so many samples, each of an instance of its own, a take gives.
 fn count_taken(alloc: Global, count: u16) -> usize {
     let Ok(qos) = qos(alloc) else {
@@ -62,12 +72,7 @@ fn count_taken(alloc: Global, count: u16) -> usize {
     };
     let mut cache = ReaderCache::open(alloc, qos);
     come_numbered(alloc, &mut cache, count);
-    let (max, masks) = (-1, Masks::ANY);
-    let selection = Selection::Any { max, masks };
-    match cache.access(AccessKind::Take, selection, &Everything) {
-        Ok(samples) => samples.as_slice().len(),
-        Err(_) => 0,
-    }
+    take_all(&mut cache)
 }
 
 #[test]

@@ -99,29 +99,38 @@ fn push_acknowledged(text: &mut String, history: &History) {
     }
 }
 
+fn begin(alloc: Global, text: &mut String, history: &mut History, words: Words<'_>) {
+    if let Ok(opened) = open(alloc, words) {
+        *history = opened;
+        show(text, &history.last().number());
+    }
+}
+
+/// Appends what a history answers that stays as it is.
+fn push_look(text: &mut String, history: &History, name: &str, number: u64) {
+    match name {
+        "last" => show(text, &history.last().number()),
+        "first" => show(text, &history.first().number()),
+        "acknowledged" => push_acknowledged(text, history),
+        "kept" => show(text, &history.kept(Sn::new(number))),
+        "awaited" => show(text, &history.is_awaited(Sn::new(number))),
+        "get" => push_get(text, history, number),
+        _ => {}
+    }
+}
+
 impl Subject for History {
     fn answer(&mut self, alloc: Global, text: &mut String, name: &str, operands: &str) {
         let words = words_of(operands);
         match name {
-            "open" => {
-                if let Ok(history) = open(alloc, words) {
-                    *self = history;
-                    show(text, &self.last().number());
-                }
-            }
-            "last" => show(text, &self.last().number()),
-            "first" => show(text, &self.first().number()),
+            "open" => begin(alloc, text, self, words),
             "acked" => {
                 acknowledge(self, number_of(words.first));
                 show(text, &self.first().number());
             }
-            "acknowledged" => push_acknowledged(text, self),
-            "kept" => show(text, &self.kept(Sn::new(number_of(words.first)))),
-            "awaited" => show(text, &self.is_awaited(Sn::new(number_of(words.first)))),
             "append" => show(text, &self.append(write_of(alloc, words))),
             "refusal" => show(text, &self.refusal(&write_of(alloc, words))),
-            "get" => push_get(text, self, number_of(words.first)),
-            _ => {}
+            _ => push_look(text, self, name, number_of(words.first)),
         }
     }
 }

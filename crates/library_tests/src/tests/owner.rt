@@ -1,6 +1,6 @@
 //! Who is registered for an instance, and who owns it.
 
-use crate::tests::rows::{Subject, expect_rows, number_of, show, words_of};
+use crate::tests::rows::{Subject, Words, expect_rows, number_of, show, words_of};
 use dds_base::{
     Arrival, Change, ChangeKind, EntityId, Guid, GuidPrefix, Handle, HistoryQos, Key,
     MatchedWriter, Moment, Octets, OwnershipQos, ReaderConfig, ReaderQos, ReliabilityQos, Sequence,
@@ -226,12 +226,20 @@ impl OwnedInstance {
         self.push_owner_of(text, &self.others);
     }
 
-    fn enter(&mut self, name: &str, writer: Handle) {
+    fn begin(&mut self, alloc: Global, text: &mut String, operands: &str) {
+        if let Some(opened) = OwnedInstance::open(alloc, operands) {
+            *self = opened;
+            self.push_owner(text);
+        }
+    }
+
+    fn enter(&mut self, text: &mut String, name: &str, writer: Handle) {
         match name {
             "register" => self.owners.register(writer),
             "unregister" => self.owners.unregister(writer),
             _ => self.owners.drop_writer(writer),
         }
+        self.push_owner(text);
     }
 
     fn is_so(&self, name: &str, arrival: &Arrival) -> bool {
@@ -245,6 +253,14 @@ impl OwnedInstance {
             _ => self.owners.would_have_writers(arrival, self.writers),
         }
     }
+
+    /// Appends what is so, with a change that would come.
+    fn push_look(&self, alloc: Global, text: &mut String, name: &str, words: Words<'_>) {
+        let writer = Handle::new(number_of(words.first));
+        let strength = words.third.parse().ok();
+        let change = change_by(alloc, writer, kind_of(words.second), strength);
+        show(text, &self.is_so(name, &change));
+    }
 }
 
 impl Subject for OwnedInstance {
@@ -252,16 +268,8 @@ impl Subject for OwnedInstance {
         let words = words_of(operands);
         let writer = Handle::new(number_of(words.first));
         match name {
-            "open" => {
-                if let Some(opened) = OwnedInstance::open(alloc, operands) {
-                    *self = opened;
-                    self.push_owner(text);
-                }
-            }
-            "register" | "unregister" | "drop" => {
-                self.enter(name, writer);
-                self.push_owner(text);
-            }
+            "open" => self.begin(alloc, text, operands),
+            "register" | "unregister" | "drop" => self.enter(text, name, writer),
             "join" | "join_unseen" => {
                 let _ = self.join(alloc, operands, name == "join");
                 self.push_owner(text);
@@ -271,11 +279,7 @@ impl Subject for OwnedInstance {
                 self.push_owner_of(text, &self.others);
             }
             "strength" => self.set_strength(text, writer, words.second.parse().unwrap_or(0)),
-            _ => {
-                let strength = words.third.parse().ok();
-                let change = change_by(alloc, writer, kind_of(words.second), strength);
-                show(text, &self.is_so(name, &change));
-            }
+            _ => self.push_look(alloc, text, name, words),
         }
     }
 }

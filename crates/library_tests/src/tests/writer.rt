@@ -148,43 +148,62 @@ fn push_acknack(text: &mut String, writer: &mut StatefulWriter, operands: &str) 
     }
 }
 
+fn begin(alloc: Global, text: &mut String, writer: &mut StatefulWriter, words: Words<'_>) {
+    if let Ok(opened) = open(alloc, words) {
+        *writer = opened;
+        show(text, &writer.last().number());
+    }
+}
+
+fn push_written(
+    alloc: Global,
+    text: &mut String,
+    writer: &mut StatefulWriter,
+    kind: ChangeKind,
+    words: Words<'_>,
+) {
+    show(text, &writer.write(change_of(alloc, kind, words)));
+}
+
+fn push_refusal(alloc: Global, text: &mut String, writer: &StatefulWriter, words: Words<'_>) {
+    let change = change_of(alloc, ChangeKind::Write, words);
+    show(text, &writer.refusal(&change));
+}
+
+/// Appends what a writer answers that stays as it is.
+fn push_look(text: &mut String, writer: &StatefulWriter, name: &str, word: &str) {
+    match name {
+        "last" => show(text, &writer.last().number()),
+        "registered" => show(text, &writer.is_registered(key_of(word))),
+        "get" => show(text, &writer.get(Sn::new(number_of(word))).is_some()),
+        "behind" => push_behind(text, writer, word.parse().unwrap_or(0)),
+        "strength" => show(text, &writer.strength()),
+        _ => {}
+    }
+}
+
+/// Appends what comes of a call that has one word.
+fn push_call(text: &mut String, writer: &mut StatefulWriter, name: &str, word: &str) {
+    match name {
+        "register" => show(text, &writer.register(key_of(word))),
+        "tick" => show(text, &writer.tick(Moment::new(number_of(word)))),
+        "assert" => show(text, &writer.assert(true, Moment::new(number_of(word)))),
+        "lost" => show(text, &writer.liveliness_lost()),
+        "set_strength" => show(text, &writer.set_strength(word.parse().unwrap_or(0))),
+        _ => push_look(text, writer, name, word),
+    }
+}
+
 impl Subject for StatefulWriter {
     fn answer(&mut self, alloc: Global, text: &mut String, name: &str, operands: &str) {
         let words = words_of(operands);
         match name {
-            "open" => {
-                if let Ok(writer) = open(alloc, words) {
-                    *self = writer;
-                    show(text, &self.last().number());
-                }
-            }
-            "last" => show(text, &self.last().number()),
-            "write" => show(
-                text,
-                &self.write(change_of(alloc, ChangeKind::Write, words)),
-            ),
-            "unregister" => show(
-                text,
-                &self.write(change_of(alloc, ChangeKind::Unregister, words)),
-            ),
-            "refusal" => show(
-                text,
-                &self.refusal(&change_of(alloc, ChangeKind::Write, words)),
-            ),
-            "register" => show(text, &self.register(key_of(words.first))),
-            "registered" => show(text, &self.is_registered(key_of(words.first))),
-            "get" => show(text, &self.get(Sn::new(number_of(words.first))).is_some()),
-            "behind" => push_behind(text, self, words.first.parse().unwrap_or(0)),
-            "tick" => show(text, &self.tick(Moment::new(number_of(words.first)))),
-            "assert" => show(
-                text,
-                &self.assert(true, Moment::new(number_of(words.first))),
-            ),
-            "lost" => show(text, &self.liveliness_lost()),
-            "strength" => show(text, &self.strength()),
-            "set_strength" => show(text, &self.set_strength(words.first.parse().unwrap_or(0))),
+            "open" => begin(alloc, text, self, words),
+            "write" => push_written(alloc, text, self, ChangeKind::Write, words),
+            "unregister" => push_written(alloc, text, self, ChangeKind::Unregister, words),
+            "refusal" => push_refusal(alloc, text, self, words),
             "acknack" => push_acknack(text, self, operands),
-            _ => {}
+            _ => push_call(text, self, name, words.first),
         }
     }
 }

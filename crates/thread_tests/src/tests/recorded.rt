@@ -3,7 +3,7 @@
 ghost use Rattle.std.specs.Prelude.{◌≡◌};
 
 use super::scene::{BeginsWithOne, ENTRIES, is_left, seed_of, used_recorder};
-use super::use_peer;
+use super::{use_peer, with_one_more};
 use dds_base::Code;
 use dds_conditions::Filter;
 use dds_notices::{Listener, Recorder};
@@ -16,6 +16,16 @@ use std::sync::Wait;
 use std::test::*;
 use std::thread::Threads;
 
+fn close_with<N: Named<F, L>, F: Filter, L: Listener>(
+    shared: Shared<N, F, L>,
+    passes: Vec<Pass<N>>,
+) -> Result<Closed<F, L>, Code> {
+    match shared.close(passes) {
+        Ok(closed) => Ok(closed),
+        Err(refused) => Err(refused.code),
+    }
+}
+
 // A peer that lacked a pass closes with it.
 fn close_with_all<N: Named<F, L>, F: Filter, L: Listener>(
     refused: NotClosed<N, F, L>,
@@ -26,13 +36,9 @@ fn close_with_all<N: Named<F, L>, F: Filter, L: Listener>(
         shared,
         passes,
     } = refused;
-    let mut passes = passes;
-    if !matches!(code, Code::PreconditionNotMet) || passes.push(missing).is_err() {
-        return Err(code);
-    }
-    match shared.close(passes) {
-        Ok(closed) => Ok(closed),
-        Err(refused) => Err(refused.code),
+    match (code, with_one_more(passes, missing)) {
+        (Code::PreconditionNotMet, Ok(passes)) => close_with(shared, passes),
+        _ => Err(code),
     }
 }
 
@@ -52,14 +58,31 @@ fn close_late<N: Named<F, L>, F: Filter, L: Listener>(
 fn join_two<N: Named<F, L>, F: Filter, L: Listener, R: Wait>(
     rt: &R,
     shared: &Shared<N, F, L>,
-    passes: (Pass<N>, Pass<N>),
-) -> Result<(Pass<N>, Pass<N>), Code> {
-    let (mut first, second) = passes;
-    let third = shared.split_pass(rt, &mut first)?;
-    match shared.join_pass(&mut first, second) {
-        Ok(()) => Ok((first, third)),
+    first: &mut Pass<N>,
+    second: Pass<N>,
+) -> Result<Pass<N>, Code> {
+    let third = shared.split_pass(rt, first)?;
+    match shared.join_pass(first, second) {
+        Ok(()) => Ok(third),
         Err((code, _)) => Err(code),
     }
+}
+
+// The peer is used, until one pass has taken the other in and another has nothing.
+fn use_and_join<
+    N: Named<F, L> + Send + Sync,
+    F: Filter + Send,
+    L: Listener + Send,
+    R: Threads + Wait + Abort + Sync,
+>(
+    rt: &R,
+    alloc: Global,
+    shared: &Shared<N, F, L>,
+    first: Pass<N>,
+) -> Result<(Vec<Pass<N>>, Pass<N>), Code> {
+    let (mut first, second) = use_peer(rt, alloc, shared, first)?;
+    let third = join_two(rt, shared, &mut first, second)?;
+    Ok((with_one_more(Vec::new(alloc), first)?, third))
 }
 
 // The peer is used and closed.
@@ -69,9 +92,8 @@ fn use_and_close<
     L: Listener + Send,
     R: Threads + Wait + Abort + Sync,
 >(rt: &R, alloc: Global, shared: Shared<N, F, L>, first: Pass<N>) -> Result<Closed<F, L>, Code> {
-    let passes = use_peer(rt, alloc, &shared, first)?;
-    let (first, second) = join_two(rt, &shared, passes)?;
-    close_late(shared, vec![in alloc; first]?, second)
+    let (passes, missing) = use_and_join(rt, alloc, &shared, first)?;
+    close_late(shared, passes, missing)
 }
 
 // The peer is shared under its name, used and closed.
@@ -103,8 +125,7 @@ fn run<F: Filter + Send, L: Listener + Send, R: Threads + Wait + Abort + Sync>(
 
 // How many entries the order of one trace has.
 fn woven(alloc: Global, trace: Trace) -> Result<usize, Code> {
-    let mut traces = Vec::new(alloc);
-    traces.push(trace)?;
+    let traces = with_one_more(Vec::new(alloc), trace)?;
     match weave(alloc, traces.as_slice()) {
         Ok(run) => Ok(run.order.as_slice().len()),
         Err(_) => Err(Code::Error),

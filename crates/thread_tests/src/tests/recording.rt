@@ -4,7 +4,7 @@ ghost use Rattle.std.specs.Prelude.{◌≡◌};
 
 use super::scene::{BeginsWithOne, ENTRIES, is_left, recorders_seed};
 use super::threads::{TAKE_TURNS, run_both};
-use super::use_peer;
+use super::{use_peer, with_one_more};
 use dds_base::Code;
 use dds_conditions::Filter;
 use dds_notices::{Listener, Recorder};
@@ -25,13 +25,11 @@ struct Cut<F: Filter, L: Listener> {
 
 // What is left where all passes and the scribe are handed in.
 fn close<N: Named<F, L>, F: Filter, L: Listener>(
-    alloc: Global,
     shared: Recording<N, F, L>,
-    passes: (FlatPass<N>, FlatPass<N>),
+    passes: Vec<FlatPass<N>>,
     scribe: Scribe<N>,
 ) -> Result<Closed<F, L>, Code> {
-    let (first, second) = passes;
-    match shared.close(vec![in alloc; first, second]?, scribe) {
+    match shared.close(passes, scribe) {
         Ok(closed) => Ok(closed),
         Err(refused) => Err(refused.code),
     }
@@ -44,6 +42,27 @@ fn piece_of<N: Named<F, L>, F: Filter, L: Listener, R: Wait>(
     scribe: &mut Scribe<N>,
 ) -> Result<usize, Code> {
     Ok(shared.cut(rt, scribe)?.len())
+}
+
+// The peer is used and cut twice: its passes, and how many entries each piece had.
+fn use_and_cut<
+    N: Named<F, L> + Send + Sync,
+    F: Filter + Send,
+    L: Listener + Send,
+    R: Threads + Wait + Abort + Sync,
+>(
+    rt: &R,
+    alloc: Global,
+    shared: &Recording<N, F, L>,
+    first: FlatPass<N>,
+    scribe: &mut Scribe<N>,
+) -> Result<(Vec<FlatPass<N>>, (usize, usize)), Code> {
+    let passes = use_peer(rt, alloc, shared, first)?;
+    let piece = piece_of(rt, shared, scribe)?;
+    let (first, second) = run_both(rt, alloc, shared, passes, TAKE_TURNS)?;
+    let next = piece_of(rt, shared, scribe)?;
+    let passes = with_one_more(Vec::new(alloc), first)?;
+    Ok((with_one_more(passes, second)?, (piece, next)))
 }
 
 // The peer is used, cut twice and closed.
@@ -59,14 +78,9 @@ fn use_and_close<
     first: FlatPass<N>,
     mut scribe: Scribe<N>,
 ) -> Result<Cut<F, L>, Code> {
-    let passes = use_peer(rt, alloc, &shared, first)?;
-    let first_piece = piece_of(rt, &shared, &mut scribe)?;
-    let passes = run_both(rt, alloc, &shared, passes, TAKE_TURNS)?;
-    let next = piece_of(rt, &shared, &mut scribe)?;
-    Ok(Cut {
-        pieces: (first_piece, next),
-        closed: close(alloc, shared, passes, scribe)?,
-    })
+    let (passes, pieces) = use_and_cut(rt, alloc, &shared, first, &mut scribe)?;
+    let closed = close(shared, passes, scribe)?;
+    Ok(Cut { pieces, closed })
 }
 
 // The peer is shared under its name, used, cut twice and closed.

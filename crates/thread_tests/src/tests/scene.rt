@@ -28,34 +28,64 @@ impl Filter for BeginsWithOne {
     }
 }
 
+fn take_writer(setup: &mut Setup, number: u8) -> Option<()> {
+    let options = writer_options(&["last=1"])?;
+    let entity = EntityId::writer([0, 0, number]);
+    setup.take(SetupLine::Writer(entity, options)).ok()?;
+    Some(())
+}
+
+fn take_reader(setup: &mut Setup) -> Option<()> {
+    let options = reader_options(&["all"])?;
+    let entity = EntityId::reader([0, 0, 1]);
+    setup.take(SetupLine::Reader(entity, options)).ok()?;
+    Some(())
+}
+
 // One peer, with two writers that keep the last change of a key and a reader that keeps all, of one topic.
-fn config(alloc: Global) -> Result<Config, Code> {
-    let (Some(last), Some(all)) = (writer_options(&["last=1"]), reader_options(&["all"])) else {
-        return Err(Code::BadParameter);
-    };
+fn take_peer(setup: &mut Setup) -> Option<()> {
+    setup.take(SetupLine::Peer(GuidPrefix([1; 12]))).ok()?;
+    take_writer(setup, 1)?;
+    take_writer(setup, 2)?;
+    take_reader(setup)
+}
+
+fn config(alloc: Global) -> Option<Config> {
     let mut setup = Setup::new(alloc);
-    for line in [
-        SetupLine::Peer(GuidPrefix([1; 12])),
-        SetupLine::Writer(EntityId::writer([0, 0, 1]), last),
-        SetupLine::Writer(EntityId::writer([0, 0, 2]), last),
-        SetupLine::Reader(EntityId::reader([0, 0, 1]), all),
-    ] {
-        setup.take(line)?;
-    }
-    Ok(setup.config()?)
+    take_peer(&mut setup)?;
+    setup.config().ok()
 }
 
 // A listener of all statuses of the reader; one that keeps a notice is not taken.
-fn listen<F: Filter, L: Listener>(seed: &mut Seed<F, L>, used: L, fresh: L) -> Result<bool, Code> {
-    let entity = Entity::Reader(1);
-    let mask = StatusMask::ANY;
-    let refused = matches!(
-        seed.set_listener(entity, mask, Some(used)),
-        Err((Code::PreconditionNotMet, _))
-    );
-    match seed.set_listener(entity, mask, Some(fresh)) {
-        Ok(_) => Ok(refused),
+fn listen<F: Filter, L: Listener>(seed: &mut Seed<F, L>, listener: L) -> Result<(), Code> {
+    match seed.set_listener(Entity::Reader(1), StatusMask::ANY, Some(listener)) {
+        Ok(_) => Ok(()),
         Err((code, _)) => Err(code),
+    }
+}
+
+fn empty_seed<F: Filter, L: Listener>(alloc: Global) -> Result<Seed<F, L>, Code> {
+    match config(alloc) {
+        Some(config) => Seed::new(alloc, &config, 1),
+        None => Err(Code::BadParameter),
+    }
+}
+
+fn add_filter<F: Filter, L: Listener>(seed: &mut Seed<F, L>, filter: F) -> Result<(), Code> {
+    match seed.add_filter(filter) {
+        Ok(_) => Ok(()),
+        Err((code, _)) => Err(code),
+    }
+}
+
+fn listen_with_the_fresh<F: Filter, L: Listener>(
+    seed: &mut Seed<F, L>,
+    used: L,
+    fresh: L,
+) -> Result<(), Code> {
+    match listen(seed, used) {
+        Err(Code::PreconditionNotMet) => listen(seed, fresh),
+        _ => Err(Code::Error),
     }
 }
 
@@ -66,17 +96,10 @@ pub fn seed_of<F: Filter, L: Listener>(
     used: L,
     fresh: L,
 ) -> Result<Seed<F, L>, Code> {
-    let config = config(alloc)?;
-    let mut seed: Seed<F, L> = Seed::new(alloc, &config, 1)?;
-    match seed.add_filter(filter) {
-        Ok(_) => {}
-        Err((code, _)) => return Err(code),
-    }
-    if listen(&mut seed, used, fresh)? {
-        Ok(seed)
-    } else {
-        Err(Code::Error)
-    }
+    let mut seed = empty_seed(alloc)?;
+    add_filter(&mut seed, filter)?;
+    listen_with_the_fresh(&mut seed, used, fresh)?;
+    Ok(seed)
 }
 
 // A listener that keeps a notice.
@@ -94,18 +117,26 @@ pub fn recorders_seed(alloc: Global) -> Result<Seed<BeginsWithOne, Recorder>, Co
     seed_of(alloc, BeginsWithOne, used, fresh)
 }
 
-// The notices begin with those of the first packet, DATA_AVAILABLE and LIVELINESS_CHANGED, and of the second, DATA_AVAILABLE.
-fn are_told<F: Filter, L: Listener>(core: &Core<F, L>) -> bool {
-    let Ok(notices) = core.notices(Entity::Reader(1)) else {
-        return false;
-    };
-    match notices.as_slice() {
-        [data, changed, second, ..] => {
-            matches!(data.status, Status::DataAvailable)
-                && matches!(changed.status, Status::LivelinessChanged(_))
-                && matches!(second.status, Status::DataAvailable)
-        }
+fn is_data(notice: &Notice) -> bool {
+    matches!(notice.status, Status::DataAvailable)
+}
+
+fn is_change(notice: &Notice) -> bool {
+    matches!(notice.status, Status::LivelinessChanged(_))
+}
+
+// They begin with those of the first packet, DATA_AVAILABLE and LIVELINESS_CHANGED, and of the second, DATA_AVAILABLE.
+fn begin_with_two_packets(notices: &[Notice]) -> bool {
+    match notices {
+        [data, changed, second, ..] => is_data(data) && is_change(changed) && is_data(second),
         _ => false,
+    }
+}
+
+fn are_told<F: Filter, L: Listener>(core: &Core<F, L>) -> bool {
+    match core.notices(Entity::Reader(1)) {
+        Ok(notices) => begin_with_two_packets(notices.as_slice()),
+        Err(_) => false,
     }
 }
 
