@@ -1,7 +1,11 @@
-//! One peer, which two threads share.
+//! One peer, which two threads share, and peers whose workers exchange packets.
 
+mod apart;
 mod flat;
 mod fronts;
+mod meeting;
+mod memory_link;
+mod pairs;
 mod peer;
 mod recorded;
 mod recording;

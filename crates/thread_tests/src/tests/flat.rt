@@ -101,9 +101,13 @@ fn run<R: Threads + Wait + Abort + Sync>(
     share::<Brand, BeginsWithOne, Recorder, R>(rt, alloc, seed)
 }
 
+fn is_shared<R: Threads + Wait + Abort + Sync>(rt: &R, alloc: Global) -> Result<bool, Code> {
+    let core = run(rt, alloc)?;
+    Ok(is_left(&core))
+}
+
 #[test]
 fn threads_share_a_flat_peer(rt: HostRuntime) -> Result<(), Fail> {
-    let core = run(&rt, rt.alloc())?;
-    assert!(rt; is_left(&core));
+    assert!(rt; is_shared(&rt, rt.alloc())?);
     Ok(())
 }

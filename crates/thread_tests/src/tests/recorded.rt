@@ -111,15 +111,12 @@ fn share<
     use_and_close(rt, alloc, shared, first)
 }
 
-// With a filter and listeners of any types: what is left at the end.
+// With a filter and a listener of any types: what is left at the end.
 fn run<F: Filter + Send, L: Listener + Send, R: Threads + Wait + Abort + Sync>(
     rt: &R,
     alloc: Global,
-    filter: F,
-    used: L,
-    fresh: L,
+    seed: Seed<F, L>,
 ) -> Result<Closed<F, L>, Code> {
-    let seed = seed_of(alloc, filter, used, fresh)?;
     share::<Brand, F, L, R>(rt, alloc, seed)
 }
 
@@ -132,16 +129,36 @@ fn woven(alloc: Global, trace: Trace) -> Result<usize, Code> {
     }
 }
 
-#[test]
-fn threads_share_a_peer(rt: HostRuntime) -> Result<(), Fail> {
-    let alloc = rt.alloc();
+// There are as many entries as were made, and all of them have an order.
+fn is_recorded(alloc: Global, trace: Trace) -> Result<bool, Code> {
+    let entries = trace.len();
+    let ordered = woven(alloc, trace)?;
+    Ok(ENTRIES <= entries && ordered == entries)
+}
+
+// With a filter and listeners of any types.
+fn is_left_and_recorded<F: Filter + Send, L: Listener + Send, R: Threads + Wait + Abort + Sync>(
+    rt: &R,
+    alloc: Global,
+    filter: F,
+    used: L,
+    fresh: L,
+) -> Result<bool, Code> {
+    let closed = run(rt, alloc, seed_of(alloc, filter, used, fresh)?)?;
+    let is_recorded = is_recorded(alloc, closed.trace)?;
+    Ok(is_left(&closed.core) && is_recorded)
+}
+
+// With those in boxes.
+fn is_shared<R: Threads + Wait + Abort + Sync>(rt: &R, alloc: Global) -> Result<bool, Code> {
     let filter: Box<dyn Filter + Send> = Box::new(alloc, BeginsWithOne)?;
     let used: Box<dyn Listener + Send> = Box::new(alloc, used_recorder(alloc)?)?;
     let fresh: Box<dyn Listener + Send> = Box::new(alloc, Recorder::open(alloc, 512)?)?;
-    let closed = run(&rt, alloc, filter, used, fresh)?;
-    assert!(rt; is_left(&closed.core));
-    let entries = closed.trace.len();
-    assert!(rt; ENTRIES <= entries);
-    assert_eq!(rt; woven(alloc, closed.trace)?, entries);
+    is_left_and_recorded(rt, alloc, filter, used, fresh)
+}
+
+#[test]
+fn threads_share_a_peer(rt: HostRuntime) -> Result<(), Fail> {
+    assert!(rt; is_shared(&rt, rt.alloc())?);
     Ok(())
 }

@@ -107,13 +107,19 @@ fn run<R: Threads + Wait + Abort + Sync>(
     share::<Brand, BeginsWithOne, Recorder, R>(rt, alloc, seed)
 }
 
+// The first piece has all that was done before it, the next one what two threads did since, and nothing is left.
+fn is_as_cut<F: Filter, L: Listener>(cut: &Cut<F, L>) -> bool {
+    let (piece, next) = cut.pieces;
+    is_left(&cut.closed.core) && ENTRIES <= piece && next == 200 && cut.closed.trace.len() == 0
+}
+
+fn is_cut<R: Threads + Wait + Abort + Sync>(rt: &R, alloc: Global) -> Result<bool, Code> {
+    let cut = run(rt, alloc)?;
+    Ok(is_as_cut(&cut))
+}
+
 #[test]
 fn a_trace_is_cut(rt: HostRuntime) -> Result<(), Fail> {
-    let cut = run(&rt, rt.alloc())?;
-    let (piece, next) = cut.pieces;
-    assert!(rt; is_left(&cut.closed.core));
-    assert!(rt; ENTRIES <= piece);
-    assert_eq!(rt; next, 200);
-    assert_eq!(rt; cut.closed.trace.len(), 0);
+    assert!(rt; is_cut(&rt, rt.alloc())?);
     Ok(())
 }

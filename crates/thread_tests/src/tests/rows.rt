@@ -104,6 +104,39 @@ fn turns<S: Peer<P>, P, R: Wait>(
     Ok(format!(in alloc; "{count}")?)
 }
 
+fn call<S: Peer<P>, P, R: Wait>(
+    rt: &R,
+    alloc: Global,
+    shared: &S,
+    pass: &mut P,
+    line: &str,
+) -> Result<String, Code> {
+    let event = event_of(alloc, line)?;
+    Ok(shared.does(rt, alloc, pass, event)?.text)
+}
+
+fn send_line<S: Peer<P>, P, R: Wait>(
+    rt: &R,
+    alloc: Global,
+    shared: &S,
+    pass: &mut P,
+    line: &str,
+) -> Result<String, Code> {
+    let write = event_of(alloc, line)?;
+    send(rt, alloc, shared, pass, write)
+}
+
+fn wait<S: Peer<P>, P, R: Wait>(
+    rt: &R,
+    alloc: Global,
+    shared: &S,
+    pass: &mut P,
+    moment: &str,
+) -> Result<String, Code> {
+    let deadline = Moment::new(moment.parse().unwrap_or(0));
+    Ok(shared.waits(rt, alloc, pass, deadline)?.text)
+}
+
 // What comes of a line.
 fn answer<S: Peer<P>, P, R: Wait>(
     rt: &R,
@@ -114,13 +147,10 @@ fn answer<S: Peer<P>, P, R: Wait>(
 ) -> Result<String, Code> {
     let (name, operands) = line.split_once(' ').unwrap_or((line, ""));
     match name {
-        "send" => send(rt, alloc, shared, pass, event_of(alloc, operands)?),
-        "wait" => {
-            let deadline = Moment::new(operands.parse().unwrap_or(0));
-            Ok(shared.waits(rt, alloc, pass, deadline)?.text)
-        }
+        "send" => send_line(rt, alloc, shared, pass, operands),
+        "wait" => wait(rt, alloc, shared, pass, operands),
         "turns" => turns(rt, alloc, shared, pass, operands.parse().unwrap_or(0)),
-        _ => Ok(shared.does(rt, alloc, pass, event_of(alloc, line)?)?.text),
+        _ => call(rt, alloc, shared, pass, line),
     }
 }
 

@@ -1,4 +1,4 @@
-use Rattle.pair_tests.proofs.tests.apart.run.Given as goal
+use Rattle.thread_tests.proofs.tests.apart.run.Given as goal
 
 abbrev pub ghosts-share_near-Near-Ledger : goal.ghosts-share_near-Near-Ledger
 ghosts-share_near-Near-Ledger g a = record { name = a.seed.name; parts = a.seed.parts }

@@ -1,4 +1,4 @@
-use Rattle.pair_tests.proofs.tests.apart.share_near.Given as goal
+use Rattle.thread_tests.proofs.tests.apart.share_near.Given as goal
 
 abbrev pub ghosts-share_far-Far-Ledger : goal.ghosts-share_far-Far-Ledger
 ghosts-share_far-Far-Ledger g a = record { name = a.seed.name; parts = a.seed.parts }

@@ -2,11 +2,13 @@
 
 ghost use Rattle.std.specs.Prelude.{◌≡◌};
 
+use super::peer::Peer;
+use super::with_one_more;
 use dds_base::{
     Code, Config, Entity, EntityId, GuidPrefix, Moment, PeerConfig, Sequence, WriterConfig,
 };
 use dds_conditions::Filter;
-use dds_keeping::{Handing, Keeping};
+use dds_keeping::Handing;
 use dds_log::HasWord;
 use dds_machine::Call;
 use dds_notices::{Listener, Notice, StatusMask};
@@ -106,51 +108,67 @@ impl Link for Broken {
     }
 }
 
-// A peer with a writer, whose liveliness is lost at moment 10.
-fn config(alloc: Global) -> Result<Config, Code> {
+fn writer_config() -> WriterConfig {
     let mut writer = WriterConfig::new(EntityId::writer([0, 0, 1]), 0);
     writer.lease = Some(10);
-    let peer = PeerConfig {
+    writer
+}
+
+// A peer with a writer, whose liveliness is lost at moment 10.
+fn peer_config(alloc: Global) -> Result<PeerConfig, Code> {
+    let writers = with_one_more(Vec::new(alloc), writer_config())?;
+    Ok(PeerConfig {
         prefix: GuidPrefix([1; 12]),
-        writers: Sequence::from_vec(vec![in alloc; writer]?),
+        writers: Sequence::from_vec(writers),
         readers: Sequence::from_vec(Vec::new(alloc)),
-    };
-    Ok(Config {
-        peers: Sequence::from_vec(vec![in alloc; peer]?),
     })
 }
 
-// A peer as a test has it: what is proved of a shared one is met here, once.
-trait Peer<P> {
-    // Does an event.
-    fn does<R: Wait>(&self, rt: &R, pass: &mut P, event: Event) -> Result<(), Code>;
-}
-
-impl<N: Named<F, L>, F: Filter, L: Listener, T: Keeping, P: Handing> Peer<Pass<N, P>>
-    for Shared<N, F, L, T, P> {
-    fn does<R: Wait>(&self, rt: &R, pass: &mut Pass<N, P>, event: Event) -> Result<(), Code> {
-        self.event(rt, pass, event)?;
-        Ok(())
-    }
+fn config(alloc: Global) -> Result<Config, Code> {
+    let peers = with_one_more(Vec::new(alloc), peer_config(alloc)?)?;
+    Ok(Config {
+        peers: Sequence::from_vec(peers),
+    })
 }
 
 // The writer is alive, and the time of the peer goes on to moment 10: its listener is told.
-fn go_on<S: Peer<P>, P: Drop, R: Wait>(rt: &R, shared: &S, mut pass: P) -> Result<P, Code> {
+fn be_lost<S: Peer<P>, P, R: Wait>(
+    rt: &R,
+    alloc: Global,
+    shared: &S,
+    pass: &mut P,
+) -> Result<(), Code> {
     let call = Call::AssertLiveliness { writer: 1 };
-    shared.does(rt, &mut pass, Event::Call(call))?;
-    shared.does(rt, &mut pass, Event::Tick(Moment::new(10)))?;
+    shared.does(rt, alloc, pass, Event::Call(call))?;
+    shared.does(rt, alloc, pass, Event::Tick(Moment::new(10)))?;
+    Ok(())
+}
+
+fn go_on<S: Peer<P>, P: Drop, R: Wait>(
+    rt: &R,
+    alloc: Global,
+    shared: &S,
+    mut pass: P,
+) -> Result<P, Code> {
+    be_lost(rt, alloc, shared, &mut pass)?;
     Ok(pass)
 }
 
 // Calls another peer, once that listener was told.
 fn answer<S: Peer<P>, P: Drop, R: Wait>(
     rt: &R,
+    alloc: Global,
     shared: &S,
     mut pass: P,
     signals: &Signals,
 ) -> Result<P, Code> {
     if comes(&signals.told) {
-        shared.does(rt, &mut pass, Event::Call(Call::CreateGuardCondition))?;
+        shared.does(
+            rt,
+            alloc,
+            &mut pass,
+            Event::Call(Call::CreateGuardCondition),
+        )?;
         signals.answered.store(true, Ordering::SeqCst);
     }
     Ok(pass)
@@ -165,6 +183,7 @@ fn meet<
     R: Threads + Wait + Sync,
 >(
     rt: &R,
+    alloc: Global,
     near: &Near,
     near_pass: P,
     far: &Far,
@@ -173,8 +192,8 @@ fn meet<
 ) -> Result<(P, Q), Code> {
     let (near_pass, far_pass) = join(
         rt,
-        move || go_on(rt, near, near_pass),
-        move || answer(rt, far, far_pass, signals),
+        move || go_on(rt, alloc, near, near_pass),
+        move || answer(rt, alloc, far, far_pass, signals),
     );
     Ok((near_pass?, far_pass?))
 }
@@ -199,8 +218,9 @@ fn end_near<N: Named<F, L>, F: Filter, L: Listener, R: Wait>(
     mut pass: Pass<N>,
 ) -> Result<bool, Code> {
     let has_broken = breaks_off(rt, alloc, &near, &mut pass)?;
-    let passes = vec![in alloc; pass]?;
-    Ok(has_broken && near.close(passes).is_ok())
+    let passes = with_one_more(Vec::new(alloc), pass)?;
+    let has_closed = near.close(passes).is_ok();
+    Ok(has_broken && has_closed)
 }
 
 // So it is of a flat peer.
@@ -211,8 +231,9 @@ fn end_far<N: Named<F, L>, F: Filter, L: Listener, R: Wait>(
     mut pass: FlatPass<N>,
 ) -> Result<bool, Code> {
     let has_broken = breaks_off(rt, alloc, &far, &mut pass)?;
-    let passes = vec![in alloc; pass]?;
-    Ok(has_broken && far.close(passes).is_ok())
+    let passes = with_one_more(Vec::new(alloc), pass)?;
+    let has_closed = far.close(passes).is_ok();
+    Ok(has_broken && has_closed)
 }
 
 // The other peer, which is flat, is shared beside one that is already, and ends before it.
@@ -236,7 +257,7 @@ fn share_far<
     requires set { (seed.core.filtered.filters ≡ Far.filters) × (seed.core.listeners ≡ Far.slots) }
 {
     let (far, far_pass) = Flat::<Far, F, L>::open_flat(seed);
-    let (near_pass, far_pass) = meet(rt, near, near_pass, &far, far_pass, signals)?;
+    let (near_pass, far_pass) = meet(rt, alloc, near, near_pass, &far, far_pass, signals)?;
     let has_ended = end_far(rt, alloc, far, far_pass)?;
     Ok((near_pass, has_ended))
 }
@@ -263,7 +284,8 @@ fn share_near<
     let (pass, has_ended) = share_far::<Brand, F, L, Shared<Near, F, L>, Pass<Near>, R>(
         rt, alloc, &near, pass, far_seed, signals,
     )?;
-    Ok(has_ended && end_near(rt, alloc, near, pass)?)
+    let near_has_ended = end_near(rt, alloc, near, pass)?;
+    Ok(has_ended && near_has_ended)
 }
 
 fn new_signals(alloc: Global) -> Result<Arc<Signals>, Code> {
