@@ -49,7 +49,8 @@ pub mod NamesOpened
 pub mod WithEnds
 pub mod Agreeing
 pub mod Elsewhere
-pub mod InRosters
+pub mod Behind
+pub mod Newcomers
 pub mod Counted
 pub mod ToNobody
 pub mod MissLaws

@@ -12,7 +12,7 @@ use Rattle.dds_base.specs.Written.{Written, Registered, Changed}
 use Rattle.dds_machine.specs.Ticks.{writers_ticked, after_tick}
 use Rattle.dds_machine.specs.Calls.{with_written}
 use Rattle.dds_protocol.specs.Dues.{IsTellable, AreTellable}
-use Rattle.dds_machine.specs.Opening.{opening_writer, opening_part}
+use Rattle.dds_machine.specs.Opening.{part_from, writer_from}
 use Rattle.dds_machine.specs.Part.{Part, Writer, no_writer, own_writer, at_writer, writer_changes}
 use Rattle.dds_protocol.specs.Peer.{Peer}
 use Rattle.dds_machine.proofs.Tables.{numbered-cases}
@@ -82,11 +82,11 @@ tellable_ticked part asked now all (suc k) =
     subst (λ (cs : List Change). AreTold cs) (sym (numbered_ticked now asked 1 part.rtps.writers k)) (all (suc k))
 
 -- nothing was written yet
-none_written : (peers : List PeerConfig) (ws : List WriterConfig) (k : ℕ)
-    → writer_changes (get_or (map (opening_writer peers) ws) k no_writer) ≡ []
-none_written peers [] k = refl
-none_written peers (w ∷ ws) zero = refl
-none_written peers (w ∷ ws) (suc k) = none_written peers ws k
+none_written : (first : ℕ) (peers : List PeerConfig) (ws : List WriterConfig) (k : ℕ)
+    → writer_changes (get_or (map (writer_from first peers) ws) k no_writer) ≡ []
+none_written first peers [] k = refl
+none_written first peers (w ∷ ws) zero = refl
+none_written first peers (w ∷ ws) (suc k) = none_written first peers ws k
 
 none_told : (changes : List Change) → changes ≡ [] → AreTold changes
 none_told changes none n c at = nothing (nat_lt 0 n) (subst (λ (cs : List Change). change_at cs n ≡ Some c) none at)
@@ -95,9 +95,10 @@ none_told changes none n c at = nothing (nat_lt 0 n) (subst (λ (cs : List Chang
     nothing true h = absurd cc
     nothing false h = absurd cc
 
-pub tellable_opening : (peers : List PeerConfig) (own : PeerConfig) → AreTellable (opening_part peers own)
-tellable_opening peers own zero = none_told [] refl
-tellable_opening peers own (suc k) = none_told _ (none_written peers own.writers k)
+pub tellable_opening : (first : ℕ) (peers : List PeerConfig) (own : PeerConfig)
+    → AreTellable (part_from first peers own)
+tellable_opening first peers own zero = none_told [] refl
+tellable_opening first peers own (suc k) = none_told _ (none_written first peers own.writers k)
 
 -- one of the writers became another one with the same changes
 pub tellable_put : (part : Part) (writer : ℕ) (w : Writer) → AreTellable part

@@ -11,15 +11,17 @@ ghost use Rattle.dds_notices.specs.Listeners.{ByEntity, at_entity, shown};
 ghost use Rattle.dds_core.specs.Lending.{event_of};
 ghost use Rattle.dds_core.specs.Listening.{Adds, AreKept, RefusesEntity, RefusesFilter, RefusesListener, Sets, StandsFor, Steps, no_listeners};
 ghost use Rattle.dds_core.specs.Observing.{Observes};
-ghost use Rattle.dds_core.specs.Opening.{InRosters, core_refusal, opening_peer};
+ghost use Rattle.dds_core.specs.Opening.{InRosters, InRostersAt, coming_refusal, core_refusal, opening_peer};
 ghost use Rattle.dds_core.specs.Pairs.{IsPair};
 ghost use Rattle.dds_core.specs.Remembering.{AreMisses};
 ghost use Rattle.dds_ends.specs.Sending.{AreMessages, max_unsent};
 ghost use Rattle.dds_core.specs.Standing.{StandsFor as PeerStandsFor};
 ghost use Rattle.dds_core.specs.Ruling.{IsSound};
 ghost use Rattle.dds_ends.specs.Twins.{Twins};
+ghost use Rattle.dds_machine.specs.Opening.{coming_part};
 ghost use Rattle.dds_machine.specs.Part.{how_of, is_attached, own_proxies, place_of};
 ghost use Rattle.dds_protocol.specs.declared.event.Event.TheVariants as event;
+ghost use Rattle.dds_protocol.specs.Coming.{coming_peer};
 ghost use Rattle.dds_protocol.specs.Roster.{Roster, roster_of};
 ghost use Rattle.dds_protocol.specs.Peer.{Peer as PeerState};
 
@@ -28,7 +30,7 @@ use crate::lent_event::LentEvent;
 use crate::misses::Misses;
 use crate::observing::Observed;
 use crate::pairing::Pair;
-use dds_base::{Code, Config, Endpoint, Entity, Moment, Sn};
+use dds_base::{Code, Config, Endpoint, Entity, GuidPrefix, Moment, Sn};
 use dds_conditions::Filter;
 use dds_ends::{Marks, Twin, pair_of};
 use dds_notices::{Listener, Notice, Slots, StatusMask};
@@ -83,6 +85,38 @@ impl<F: Filter, L: Listener> Core<F, L> {
         ensures refused { IfErr result (Refuses (core_refusal config.now.peers peer)) }
     {
         let filtered = FilteredPeer::open(alloc, config, peer)?;
+        let listeners = Slots::open(alloc, filtered.writers(), filtered.readers())?;
+        Ok(Core {
+            filtered,
+            listeners,
+            marks: Marks::NOTHING,
+        })
+    }
+
+    /// The one peer of a configuration, as it comes to a network under this number, without filters and listeners. Its
+    /// writers and readers are matched with its own alone, until they are told of others. The room for all listeners
+    /// that will be set is made here.
+    ///
+    /// # Errors
+    ///
+    /// The first of these: what `Config::check` answers; `BadParameter` where the configuration has more peers than one,
+    /// or the number is 0; `Memory` where a growth was refused.
+    ///
+    /// RTPS 2.5, 8.2 (Participant).
+    pub fn come(alloc: Global, config: &Config, number: u32) -> Result<Core<F, L>, Code>
+        // By the roster of each list that has the peer under this number it stands for it as it comes, and all that is
+        // known of it was claimed.
+        ensures coming { IfOk result (λ core. InRostersAt config.now number
+            (λ roster p. StandsFor L.notices L.capacity L.becomes (no_listeners (coming_part number p)) core
+            roster (coming_peer number p) × IsSound roster (coming_peer number p))) }
+        // It has no filters.
+        ensures none { IfOk result (λ core. core.filtered.filters ≡ []) }
+        // Against what comes there is no cause.
+        ensures taken { IfOk result (λ core. coming_refusal config.now.peers number ≡ None) }
+        // A refusal is by the first cause that there is, or for want of memory.
+        ensures refused { IfErr result (Refuses (coming_refusal config.now.peers number)) }
+    {
+        let filtered = FilteredPeer::come(alloc, config, number)?;
         let listeners = Slots::open(alloc, filtered.writers(), filtered.readers())?;
         Ok(Core {
             filtered,
@@ -347,6 +381,20 @@ impl<F: Filter, L: Listener> Core<F, L> {
             → result ≡ is_used (at_number peer.part.dds.watch.wait_sets number) }
     {
         self.filtered.is_in_use(number)
+    }
+
+    /// The prefix of the GUIDs of its ends, which no other peer has.
+    ///
+    /// RTPS 2.5, 8.2 (GuidPrefix_t).
+    pub fn prefix(&self) -> GuidPrefix
+        // It is that of the peer in each roster in which it stands for one.
+        ensures prefix { (roster : Roster) (peer : PeerState)
+            → PeerStandsFor self.now.filtered.peer roster peer
+            → result ≡ roster.prefix peer.number }
+        // So it is what the peer keeps.
+        ensures kept { result ≡ self.now.filtered.peer.prefix }
+    {
+        self.filtered.prefix()
     }
 
     /// The peer's moment: 0, or that of the last tick that was done.

@@ -9,6 +9,7 @@ ghost use Rattle.dds_conditions.specs.Filtered.{tests_of};
 ghost use Rattle.dds_conditions.specs.Watched.{is_used, uses_in};
 ghost use Rattle.dds_machine.specs.Noticing.{at_end};
 ghost use Rattle.dds_machine.specs.Part.{Part, how_of, is_attached, own_proxies, place_of};
+ghost use Rattle.dds_protocol.specs.Coming.{coming_peer};
 ghost use Rattle.dds_protocol.specs.Roster.{Roster, roster_of};
 ghost use Rattle.dds_protocol.specs.Peer.{Peer as PeerState};
 ghost use Rattle.dds_core.specs.Filtering.{StandsFor};
@@ -16,7 +17,7 @@ ghost use Rattle.dds_core.specs.FilteredSteps.{Adds, RefusesFilter, Steps};
 ghost use Rattle.dds_core.specs.Lending.{event_of};
 ghost use Rattle.dds_core.specs.Noticing.{AreMarksOf, MarksPeer, Tells};
 ghost use Rattle.dds_core.specs.Observing.{Observes};
-ghost use Rattle.dds_core.specs.Opening.{InRosters, core_refusal, opening_peer};
+ghost use Rattle.dds_core.specs.Opening.{InRosters, InRostersAt, coming_refusal, core_refusal, opening_peer};
 ghost use Rattle.dds_core.specs.Pairs.{IsPair};
 ghost use Rattle.dds_core.specs.Remembering.{AreMisses};
 ghost use Rattle.dds_ends.specs.Sending.{AreMessages, max_unsent};
@@ -29,7 +30,7 @@ use crate::misses::Misses;
 use crate::observing::Observed;
 use crate::pairing::Pair;
 use crate::peer::Peer;
-use dds_base::{Code, Config, Endpoint, Moment, Sn};
+use dds_base::{Code, Config, Endpoint, GuidPrefix, Moment, Sn};
 use dds_conditions::{Filter, FilterList};
 use dds_ends::{Marks, Twin};
 use dds_notices::{Listener, Slots};
@@ -75,6 +76,31 @@ impl<F: Filter> FilteredPeer<F> {
         ensures refused { IfErr result (Refuses (core_refusal config.now.peers peer)) }
     {
         let peer = Peer::open(alloc, config, peer)?;
+        Ok(FilteredPeer {
+            peer,
+            filters: FilterList::new(alloc),
+        })
+    }
+
+    /// The one peer of a configuration, as it comes to a network under this number, without filters. Its writers and
+    /// readers are matched with its own alone, until they are told of others.
+    ///
+    /// # Errors
+    ///
+    /// The first of these: what `Config::check` answers; `BadParameter` where the configuration has more peers than one,
+    /// or the number is 0; `Memory` where a growth was refused.
+    pub fn come(alloc: Global, config: &Config, number: u32) -> Result<FilteredPeer<F>, Code>
+        // By the roster of each list that has the peer under this number it stands for it as it comes.
+        ensures coming { IfOk result (λ core. InRostersAt config.now number
+            (λ roster p. StandsFor core roster (coming_peer number p))) }
+        // It has no filters.
+        ensures none { IfOk result (λ core. core.filters ≡ []) }
+        // Against what comes there is no cause.
+        ensures taken { IfOk result (λ core. coming_refusal config.now.peers number ≡ None) }
+        // A refusal is by the first cause that there is, or for want of memory.
+        ensures refused { IfErr result (Refuses (coming_refusal config.now.peers number)) }
+    {
+        let peer = Peer::come(alloc, config, number)?;
         Ok(FilteredPeer {
             peer,
             filters: FilterList::new(alloc),
@@ -211,6 +237,13 @@ impl<F: Filter> FilteredPeer<F> {
         ensures filters { self.new.filters ≡ self.old.filters }
     {
         self.peer.end(slots, marks);
+    }
+
+    /// The prefix of the GUIDs of its ends.
+    pub(crate) fn prefix(&self) -> GuidPrefix
+        ensures { result ≡ self.now.peer.prefix }
+    {
+        self.peer.prefix
     }
 
     /// The peer's moment: 0, or that of the last tick that was done.

@@ -40,6 +40,7 @@ mod access;
 mod application;
 mod by_filter;
 mod calls;
+mod coming;
 mod delivery;
 mod effects;
 mod far_ends;

@@ -2,7 +2,7 @@
 //!
 //! DDS 1.4, 2.2.3 (policies of matched entities); RTPS 2.5, 8.2 (Participant, Endpoint).
 
-ghost use Rattle.std.specs.Prelude.{◌≡◌, ◌<◌, length, None, Ok, IfOk, IfErr};
+ghost use Rattle.std.specs.Prelude.{◌≡◌, ◌+◌, ◌^◌, ◌<◌, ◌≤◌, length, None, Ok, IfOk, IfErr};
 ghost use Rattle.std.specs.Fn.{FnReturnsAt};
 ghost use Rattle.dds_base.specs.Checked.{check_refusal};
 ghost use Rattle.dds_base.specs.Refusal.{Refuses};
@@ -36,24 +36,31 @@ fn open_each<C, E: Drop, F: Fn(&C) -> Result<E, AllocError>>(
     Ok(all)
 }
 
-/// A peer of a checked configuration, by its index.
-fn open(alloc: Global, peers: &[PeerConfig], index: usize) -> Result<Peer, AllocError>
+/// A peer of a checked configuration, by its index; the first of its peers has this number.
+pub(crate) fn open(
+    alloc: Global,
+    first: u32,
+    peers: &[PeerConfig],
+    index: usize,
+) -> Result<Peer, AllocError>
     requires within { index < length peers.now }
     requires checked { check_refusal peers.now ≡ None }
-    ensures { IfOk result (OpensCore peers.now index) }
+    requires low { 1 ≤ first }
+    requires room { first + length peers.now ≤ 2 ^ 32 }
+    ensures { IfOk result (OpensCore first peers.now index) }
 {
     let own = &peers[index];
     let writers = open_each(
         alloc,
         own.writers.as_slice(),
-        |w| WriterEnd::open(alloc, peers, w),
+        |w| WriterEnd::open(alloc, first, peers, w),
     )?;
     let readers = open_each(
         alloc,
         own.readers.as_slice(),
-        |r| ReaderEnd::open(alloc, peers, r),
+        |r| ReaderEnd::open(alloc, first, peers, r),
     )?;
-    let names = KnownNames::open(alloc, peers)?;
+    let names = KnownNames::open(alloc, first, peers)?;
     let watch = Watch::open(alloc, writers.len(), readers.len())?;
     Ok(Peer {
         alloc,
@@ -91,6 +98,6 @@ impl Peer {
         let Some(index) = index_of_peer(peer, peers.len()) else {
             return Err(Code::BadParameter);
         };
-        Ok(open(alloc, peers, index)?)
+        Ok(open(alloc, 1, peers, index)?)
     }
 }

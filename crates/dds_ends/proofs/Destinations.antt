@@ -16,7 +16,7 @@ use Rattle.dds_protocol.proofs.PeersOf.{has, without}
 use Rattle.dds_ends.specs.declared.matching.Destination.{Destination}
 use Rattle.dds_ends.specs.Matching.{has_reader, destinations}
 use Rattle.dds_ends.specs.MatchedEnds.{IsPeer}
-use Rattle.dds_ends.proofs.Numbered.{IsRest, rest_whole, rest_first, rest_later, cond_get}
+use Rattle.dds_ends.proofs.Numbered.{IsRest, rest_first, rest_later, cond_get}
 
 -- a reader, by the numbers of its peer and its own
 abbrev name_at : ℕ → ℕ → ReaderConfig → Endpoint
@@ -109,20 +109,16 @@ peers_are topic n (p ∷ ps) =
     (destinations topic (n + 1) ps))
 
 -- a destination is a peer of the configuration
-peers_from : (config : Config) (topic n : ℕ) (ps : List PeerConfig) → IsRest config.peers n ps → (k : ℕ)
+pub is_peer : (config : Config) (topic n : ℕ) (ps : List PeerConfig) → IsRest config.peers n ps → (k : ℕ)
     (d : Destination) → slice_get (destinations topic n ps) k ≡ Some d → IsPeer (roster_of config) d
-peers_from config topic n [] rest k d at = absurd cc
-peers_from config topic n (p ∷ ps) rest k d at =
+is_peer config topic n [] rest k d at = absurd cc
+is_peer config topic n (p ∷ ps) rest k d at =
     ⊎_elim
     (λ f. subst (λ (x : Destination). IsPeer (roster_of config) x) f.1
     (prefix_is config n p (rest_first config.peers n p ps rest)))
-    (λ f. peers_from config topic (n + 1) ps (rest_later config.peers n p ps rest) f.0 d f.1)
+    (λ f. is_peer config topic (n + 1) ps (rest_later config.peers n p ps rest) f.0 d f.1)
     (cond_get (has_reader topic p.readers) (record { peer = n; prefix = p.prefix })
     (destinations topic (n + 1) ps) k d at)
-
-pub is_peer : (config : Config) (topic k : ℕ) (d : Destination)
-    → slice_get (destinations topic 1 config.peers) k ≡ Some d → IsPeer (roster_of config) d
-is_peer config topic k d at = peers_from config topic 1 config.peers (rest_whole config.peers) k d at
 
 -- where an element stands
 pub at_some : {X : Type 0} (xs : List X) (x : X) → Contains xs x → (k : ℕ) × (slice_get xs k ≡ Some x)

@@ -122,8 +122,8 @@ few_from topic i (p ∷ ps) good peer =
         )
 
 -- the readers of a topic, in a configuration that is not refused
-pub few_opened : (topic : ℕ) (peers : List PeerConfig) → check_refusal peers ≡ None
-    → AreFew (readers_of (all_names topic peers))
-few_opened topic peers fits =
+pub few_opened : (topic first : ℕ) (peers : List PeerConfig) → check_refusal peers ≡ None
+    → AreFew (readers_of (all_names topic first peers))
+few_opened topic first peers fits =
     let good = configs_are_good (record { peers = peers }) fits in
-    few_names (all_names topic peers) (λ peer. (few_from topic 1 peers good.each peer).0)
+    few_names (all_names topic first peers) (λ peer. (few_from topic first peers good.each peer).0)

@@ -1,11 +1,12 @@
 -- Whom a writer is matched with: by the configuration at the opening, and where names stand among others.
-use Rattle.std.proofs.Common.{◌≡◌, ℕ, zero, suc, ◌+◌, ◌-◌, Bool, true, false, ◌||◌, List, [], ◌∷◌, Some, Contains, map, slice_get, refl, ap, sym, ◌∙◌, subst, arith, ⊎_elim, eq-eqb}
+use Rattle.std.proofs.Common.{◌≡◌, ℕ, zero, suc, ◌+◌, Bool, true, false, ◌&&◌, ◌||◌, List, [], ◌∷◌, ◌++◌, Some, Contains, map, slice_get, refl, ap, sym, ◌∙◌, subst, arith, ⊎_elim, eq-eqb}
+use Rattle.std.specs.Prelude.{if◌then◌else◌}
 use Rattle.std.proofs.lemmas.Option.{same_Some}
 use Rattle.dds_base.specs.declared.config.Config.{Config}
 use Rattle.dds_base.specs.declared.config.PeerConfig.{PeerConfig}
 use Rattle.dds_base.specs.declared.config.ReaderConfig.{ReaderConfig}
 use Rattle.dds_base.specs.declared.config.WriterConfig.{WriterConfig}
-use Rattle.dds_base.specs.Matched.{any_reader, is_reliable_reader}
+use Rattle.dds_base.specs.Matched.{any_reader, is_reliable_reader, of_ends_in, same_topic}
 use Rattle.dds_base.specs.declared.endpoint.Endpoint.{Endpoint}
 use Rattle.dds_machine.specs.Part.{peers_of, same_endpoint}
 use Rattle.dds_machine.proofs.Tables.{same_is}
@@ -21,8 +22,8 @@ use Rattle.dds_ends.specs.Matching.{destinations}
 use Rattle.dds_ends.specs.MatchedEnds.{AreKnownReaders, AreMatchedNow, AreNamedOnce, IsKnownReader, IsNameOf, IsReliableName, is_named, readers_of}
 use Rattle.dds_ends.proofs.Destinations.{among_at, is_peer, peers_are}
 use Rattle.dds_ends.proofs.Lists.{map-get}
-use Rattle.dds_ends.proofs.Named.{told}
-use Rattle.dds_ends.proofs.Numbered.{IsTold, is_told}
+use Rattle.dds_ends.proofs.Named.{in_first, in_last}
+use Rattle.dds_ends.proofs.Numbered.{IsRest, IsTold, append_get, is_told}
 use Rattle.dds_ends.proofs.Once.{Once}
 use Rattle.dds_ends.proofs.Tables.{map-matched_readers}
 
@@ -128,25 +129,27 @@ name_told config writer w is_wanted tell x own t =
           ∙ eq-eqb w.topic t.end.topic (sym t.same_topic);
     }
 
--- a reader of the topic
-any_opened : (config : Config) (writer : Endpoint) (w : WriterConfig) (k : ℕ) (name : ReaderName)
+-- a reader of the topic, where the configuration has these peers from this number on
+any_opened : (config : Config) (first : ℕ) (peers : List PeerConfig) → IsRest config.peers first peers
+    → (writer : Endpoint) (w : WriterConfig) (k : ℕ) (name : ReaderName)
     → StandsIn (λ (p : PeerConfig). p.writers) config.peers writer w
-    → slice_get (all_names w.topic config.peers) k ≡ Some name → IsNameOf (roster_of config) writer name
-any_opened config writer w k name own at =
+    → slice_get (all_names w.topic first peers) k ≡ Some name → IsNameOf (roster_of config) writer name
+any_opened config first peers rest writer w k name own at =
     let t =
     is_told config.peers (λ (p : PeerConfig). p.readers) any_reader (λ (r : ReaderConfig). r.topic) reader_name w.topic
-    k name at in
+    first peers rest k name at in
     subst (λ (x : ReaderName). IsNameOf (roster_of config) writer x) t.told
     (name_told config writer w any_reader reader_name name own t)
 
 -- a reliable one
-name_opened : (config : Config) (writer : Endpoint) (w : WriterConfig) (k : ℕ) (name : ReaderName)
+name_opened : (config : Config) (first : ℕ) (peers : List PeerConfig) → IsRest config.peers first peers
+    → (writer : Endpoint) (w : WriterConfig) (k : ℕ) (name : ReaderName)
     → StandsIn (λ (p : PeerConfig). p.writers) config.peers writer w
-    → slice_get (reader_names w.topic config.peers) k ≡ Some name → IsReliableName (roster_of config) writer name
-name_opened config writer w k name own at =
+    → slice_get (reader_names w.topic first peers) k ≡ Some name → IsReliableName (roster_of config) writer name
+name_opened config first peers rest writer w k name own at =
     let t =
     is_told config.peers (λ (p : PeerConfig). p.readers) is_reliable_reader (λ (r : ReaderConfig). r.topic) reader_name
-    w.topic k name at in
+    w.topic first peers rest k name at in
     subst (λ (x : ReaderName). IsReliableName (roster_of config) writer x) t.told
     (record {
       name_is = name_told config writer w is_reliable_reader reader_name name own t;
@@ -161,13 +164,13 @@ IsNamedSo roster writer name true = IsReliableName roster writer name
 IsNamedSo roster writer name false = IsNameOf roster writer name
 
 -- what is known of the readers of the topic is so
-pub all_opened : (config : Config) (writer : Endpoint) (w : WriterConfig)
-    → StandsIn (λ (p : PeerConfig). p.writers) config.peers writer w
-    → AreKnownReaders (roster_of config) writer (topic_names w.topic config.peers)
-all_opened config writer w own k known at =
+pub all_opened : (config : Config) (first : ℕ) (peers : List PeerConfig) → IsRest config.peers first peers
+    → (writer : Endpoint) (w : WriterConfig) → StandsIn (λ (p : PeerConfig). p.writers) config.peers writer w
+    → AreKnownReaders (roster_of config) writer (topic_names w.topic first peers)
+all_opened config first peers rest writer w own k known at =
     let t =
-    is_told config.peers (λ (p : PeerConfig). p.readers) any_reader (λ (r : ReaderConfig). r.topic) topic_name w.topic k
-    known at in
+    is_told config.peers (λ (p : PeerConfig). p.readers) any_reader (λ (r : ReaderConfig). r.topic) topic_name w.topic
+    first peers rest k known at in
     subst (λ (x : TopicName). IsKnownReader (roster_of config) writer x) t.told
     (record {
       name_is = name_told config writer w any_reader topic_name known own t;
@@ -184,49 +187,71 @@ known_so roster writer known is = by known.is_reliable is.as_reliable
     by true reliable = record { name_is = is.name_is; reliable = reliable }
     by false reliable = is.name_is
 
--- an end, by the numbers that it has
-end_as : (e : Endpoint) (peer number : ℕ) → peer ≡ e.peer → number ≡ e.number
-    → ◌≡◌ {A = Endpoint} (record { peer = peer; number = number }) e
-end_as e peer number p n = by peer e.peer number e.number p n
+-- a reliable reader of the topic is one of all
+reliable_in : (tell : ℕ → ReaderConfig → ReaderName) (topic n : ℕ) (rs : List ReaderConfig) (k : ℕ) (x : ReaderName)
+    → slice_get (of_ends_in is_reliable_reader (λ (r : ReaderConfig). r.topic) tell topic n rs) k ≡ Some x
+    → (j : ℕ) × (slice_get (of_ends_in any_reader (λ (r : ReaderConfig). r.topic) tell topic n rs) j ≡ Some x)
+reliable_in tell topic n [] k x at = absurd cc
+reliable_in tell topic n (r ∷ rs) k x at =
+    by (is_reliable_reader r) (same_topic r.topic topic) k (λ i later. reliable_in tell topic (n + 1) rs i x later) at
   where
-    by : (a b c d : ℕ) → a ≡ b → c ≡ d
-        → ◌≡◌ {A = Endpoint} (record { peer = a; number = c }) (record { peer = b; number = d })
-    by a b c d p n = cc
+    few : List ReaderName
+    few = of_ends_in is_reliable_reader (λ (c : ReaderConfig). c.topic) tell topic (n + 1) rs
 
--- a reliable one is a matched reader
-pub matched_opened : (peers : List PeerConfig) (topic k : ℕ) (name : ReaderName)
-    → slice_get (reader_names topic peers) k ≡ Some name → Contains (readers_of (all_names topic peers)) name.reader
-matched_opened peers topic k name at =
-    let t =
-    is_told peers (λ (p : PeerConfig). p.readers) is_reliable_reader (λ (r : ReaderConfig). r.topic) reader_name topic k
-    name at in
-    let there =
-    told (λ (p : PeerConfig). p.readers) any_reader (λ (r : ReaderConfig). r.topic) reader_name topic 1 peers
-    (t.number - 1) t.peer (t.end_number - 1) t.end t.at_peer.1 t.at_end.1 refl t.same_topic in
-    let low = t.at_peer.0 in
-    let above = t.at_end.0 in
-    let reader : Endpoint = record { peer = t.number; number = t.end_number } in
-    subst (λ (e : Endpoint). Contains (readers_of (all_names topic peers)) e)
-    (end_as reader (1 + (t.number - 1)) (1 + (t.end_number - 1)) (omega (arith, low)) (omega (arith, above))
-    ∙ ap (λ (x : ReaderName). x.reader) t.told)
-    (among_at (readers_of (all_names topic peers)) there.0 _
-    (map-get (λ (x : ReaderName). x.reader) (all_names topic peers) there.0 _ there.1))
+    each : List ReaderName
+    each = of_ends_in any_reader (λ (c : ReaderConfig). c.topic) tell topic (n + 1) rs
 
--- a writer sends to the peers of its matched readers
-pub sent_opened : (peers : List PeerConfig) (topic : ℕ)
-    → peers_of (readers_of (all_names topic peers)) ≡ map (λ (d : Destination). d.peer) (destinations topic 1 peers)
-sent_opened peers topic =
+    by : (a b : Bool) (i : ℕ)
+        → ((h : ℕ) → slice_get few h ≡ Some x → (j : ℕ) × (slice_get each j ≡ Some x))
+        → slice_get (if a && b then tell n r ∷ few else few) i ≡ Some x
+        → (j : ℕ) × (slice_get (if b then tell n r ∷ each else each) j ≡ Some x)
+    by true true zero later here = (zero, here)
+    by true true (suc i) later here = let f = later i here in (suc f.0, f.1)
+    by true false i later here = later i here
+    by false true i later here = let f = later i here in (suc f.0, f.1)
+    by false false i later here = later i here
+
+among_all : (topic i : ℕ) (ps : List PeerConfig) (k : ℕ) (x : ReaderName)
+    → slice_get (reader_names topic i ps) k ≡ Some x
+    → (j : ℕ) × (slice_get (all_names topic i ps) j ≡ Some x)
+among_all topic i [] k x at = absurd cc
+among_all topic i (p ∷ ps) k x at =
+    let few : List ReaderName =
+    of_ends_in is_reliable_reader (λ (r : ReaderConfig). r.topic) (reader_name i p) topic 1 p.readers in
+    let each : List ReaderName =
+    of_ends_in any_reader (λ (r : ReaderConfig). r.topic) (reader_name i p) topic 1 p.readers in
+    ⊎_elim
+    (λ f.
+    let g = reliable_in (reader_name i p) topic 1 p.readers f.0 x f.1 in
+    in_first each (all_names topic (i + 1) ps) g.0 x g.1)
+    (λ f. let g = among_all topic (i + 1) ps f.0 x f.1 in in_last each (all_names topic (i + 1) ps) g.0 x g.1)
+    (append_get few (reader_names topic (i + 1) ps) k x at)
+
+-- so it is matched
+pub matched_opened : (topic first : ℕ) (peers : List PeerConfig) (k : ℕ) (name : ReaderName)
+    → slice_get (reader_names topic first peers) k ≡ Some name
+    → Contains (readers_of (all_names topic first peers)) name.reader
+matched_opened topic first peers k name at =
+    let f = among_all topic first peers k name at in
+    among_at (readers_of (all_names topic first peers)) f.0 name.reader
+    (map-get (λ (x : ReaderName). x.reader) (all_names topic first peers) f.0 name f.1)
+
+-- the peers of all are those that are sent to
+pub sent_opened : (topic first : ℕ) (peers : List PeerConfig)
+    → peers_of (readers_of (all_names topic first peers))
+    ≡ map (λ (d : Destination). d.peer) (destinations topic first peers)
+sent_opened topic first peers =
     ap (λ (es : List Endpoint). peers_of es)
-    (map-matched_readers (λ (n : ReaderName). n.reader) reader_name topic 1 peers) ∙ peers_are topic 1 peers
+    (map-matched_readers (λ (n : ReaderName). n.reader) reader_name topic first peers) ∙ peers_are topic first peers
 
 -- whom a writer is matched with
-pub ends_opened : (config : Config) (writer : Endpoint) (w : WriterConfig)
-    → StandsIn (λ (p : PeerConfig). p.writers) config.peers writer w
-    → AreMatchedNow (roster_of config) writer (all_names w.topic config.peers)
-    (destinations w.topic 1 config.peers) (reader_names w.topic config.peers)
-ends_opened config writer w own = record {
-  readers = λ k n at. any_opened config writer w k n own at;
-  sent_to = sent_opened config.peers w.topic;
-  prefixes = λ k d at. is_peer config w.topic k d at;
-  named = λ k n at. name_opened config writer w k n own at;
+pub ends_opened : (config : Config) (first : ℕ) (peers : List PeerConfig) → IsRest config.peers first peers
+    → (writer : Endpoint) (w : WriterConfig) → StandsIn (λ (p : PeerConfig). p.writers) config.peers writer w
+    → AreMatchedNow (roster_of config) writer (all_names w.topic first peers) (destinations w.topic first peers)
+    (reader_names w.topic first peers)
+ends_opened config first peers rest writer w own = record {
+  readers = λ k n at. any_opened config first peers rest writer w k n own at;
+  sent_to = sent_opened w.topic first peers;
+  prefixes = λ k d at. is_peer config w.topic first peers rest k d at;
+  named = λ k n at. name_opened config first peers rest writer w k n own at;
 }

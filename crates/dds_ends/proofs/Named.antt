@@ -14,13 +14,13 @@ use Rattle.dds_ends.specs.Kept.{ReaderKept}
 use Rattle.dds_ends.specs.Readiness.{IsFirstName, IsNamedFor, NamedBy, writer_guid}
 
 -- an element that stands in a list stands in it with more before or after it
-in_first : {X : Type 0} (xs ys : List X) (j : ℕ) (x : X) → slice_get xs j ≡ Some x
+pub in_first : {X : Type 0} (xs ys : List X) (j : ℕ) (x : X) → slice_get xs j ≡ Some x
     → (k : ℕ) × (slice_get (xs ++ ys) k ≡ Some x)
 in_first [] ys j x h = absurd cc
 in_first (a ∷ as') ys zero x h = (zero, h)
 in_first (a ∷ as') ys (suc j) x h = let r = in_first as' ys j x h in (suc r.0, r.1)
 
-in_last : {X : Type 0} (xs ys : List X) (j : ℕ) (x : X) → slice_get ys j ≡ Some x
+pub in_last : {X : Type 0} (xs ys : List X) (j : ℕ) (x : X) → slice_get ys j ≡ Some x
     → (k : ℕ) × (slice_get (xs ++ ys) k ≡ Some x)
 in_last [] ys j x h = (j, h)
 in_last (a ∷ as') ys j x h = let r = in_last as' ys j x h in (suc r.0, r.1)

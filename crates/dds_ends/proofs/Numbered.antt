@@ -1,8 +1,11 @@
 -- Lists whose elements are numbered from 1, walked from the front.
-use Rattle.std.proofs.Common.{◌≡◌, ◌⊎◌, ℕ, zero, suc, ◌+◌, ◌-◌, ◌≤◌, Bool, true, false, cond, ◌&&◌, List, [], ◌∷◌, ◌++◌, Some, slice_get, refl, sym, subst, arith, inl, inr, ⊎_elim, eqb-true}
+use Rattle.std.proofs.Common.{◌≡◌, ◌⊎◌, ℕ, zero, suc, ◌+◌, ◌-◌, ◌<◌, ◌≤◌, Bool, true, false, cond, ◌&&◌, List, [], ◌∷◌, ◌++◌, Some, drop, get_or, length, slice_get, refl, ap, sym, ◌∙◌, subst, arith, inl, inr, ⊎_elim, eqb-true, append_assoc}
+use Rattle.std.proofs.lemmas.List.{drop_more}
 use Rattle.std.proofs.lemmas.Option.{same_Some}
 use Rattle.dds_base.specs.declared.config.PeerConfig.{PeerConfig}
-use Rattle.dds_base.specs.Matched.{same_topic, of_ends_in, of_matched_ends}
+use Rattle.dds_base.specs.declared.config.WriterConfig.{WriterConfig}
+use Rattle.dds_base.specs.Matched.{same_topic, of_ends_in, of_matched_ends, of_matched_writers}
+use Rattle.dds_base.specs.MatchedAt.{of_writers_in}
 use Rattle.dds_protocol.specs.Claims.{IsNumbered}
 
 -- what is left of a list, from the element of this number on
@@ -90,20 +93,29 @@ told_in all ends is_wanted topic_of tell topic i p n (e ∷ es) here rest k x at
     (cond_get (is_wanted e && same_topic (topic_of e) topic) (tell i p n e)
     (of_ends_in is_wanted topic_of (tell i p) topic (n + 1) es) k x at)
 
-told_from : {E X : Type 0} (all : List PeerConfig) (ends : PeerConfig → List E) (is_wanted : E → Bool)
+pub is_told : {E X : Type 0} (all : List PeerConfig) (ends : PeerConfig → List E) (is_wanted : E → Bool)
     (topic_of : E → ℕ) (tell : ℕ → PeerConfig → ℕ → E → X) (topic i : ℕ) (ps : List PeerConfig) → IsRest all i ps
     → (k : ℕ) (x : X) → slice_get (of_matched_ends ends is_wanted topic_of tell topic i ps) k ≡ Some x
     → IsTold all ends is_wanted topic_of tell topic x
-told_from all ends is_wanted topic_of tell topic i [] rest k x at = absurd cc
-told_from all ends is_wanted topic_of tell topic i (p ∷ ps) rest k x at =
+is_told all ends is_wanted topic_of tell topic i [] rest k x at = absurd cc
+is_told all ends is_wanted topic_of tell topic i (p ∷ ps) rest k x at =
     ⊎_elim (λ f. told_in all ends is_wanted topic_of tell topic i p 1 (ends p) (rest_first all i p ps rest)
     (rest_whole (ends p)) f.0 x f.1)
-    (λ f. told_from all ends is_wanted topic_of tell topic (i + 1) ps (rest_later all i p ps rest) f.0 x f.1)
+    (λ f. is_told all ends is_wanted topic_of tell topic (i + 1) ps (rest_later all i p ps rest) f.0 x f.1)
     (append_get (of_ends_in is_wanted topic_of (tell i p) topic 1 (ends p))
     (of_matched_ends ends is_wanted topic_of tell topic (i + 1) ps) k x at)
 
-pub is_told : {E X : Type 0} (all : List PeerConfig) (ends : PeerConfig → List E) (is_wanted : E → Bool)
-    (topic_of : E → ℕ) (tell : ℕ → PeerConfig → ℕ → E → X) (topic k : ℕ) (x : X)
-    → slice_get (of_matched_ends ends is_wanted topic_of tell topic 1 all) k ≡ Some x
-    → IsTold all ends is_wanted topic_of tell topic x
-is_told all ends is_wanted topic_of tell topic k x at = told_from all ends is_wanted topic_of tell topic 1 all (rest_whole all) k x at
+-- what is told of the writers of one peer more, of this number
+pub writers_on : {X : Type 0} (tell : ℕ → PeerConfig → ℕ → WriterConfig → X) (topic n next i : ℕ)
+    (peers : List PeerConfig) (d : PeerConfig) (old new all : List X) → next ≡ n + 1 → i < length peers
+    → new ≡ old ++ of_writers_in (tell n (get_or peers i d)) topic 1 (get_or peers i d).writers
+    → old ++ of_matched_writers tell topic n (drop i peers) ≡ all
+    → new ++ of_matched_writers tell topic next (drop (i + 1) peers) ≡ all
+writers_on {X} tell topic n next i peers d old new all is lt more before =
+    let p : PeerConfig = get_or peers i d in
+    let rest : List X = of_matched_writers tell topic (n + 1) (drop (i + 1) peers) in
+    ap (λ (m : ℕ). new ++ of_matched_writers tell topic m (drop (i + 1) peers)) is
+    ∙ (ap (λ (xs : List X). xs ++ rest) more
+    ∙ (append_assoc old (of_writers_in (tell n p) topic 1 p.writers) rest
+    ∙ (sym (ap (λ (ps : List PeerConfig). old ++ of_matched_writers tell topic n ps) (drop_more peers i d lt))
+    ∙ before)))

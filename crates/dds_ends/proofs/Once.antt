@@ -95,22 +95,26 @@ module _ {E X : Type 0} (ends : PeerConfig → List E) (is_wanted : E → Bool) 
       let low = peers_from (i + 1) ps k y at_y in
       let one = ap (λ (e : Endpoint). e.peer) same in omega (arith, here, low, one))
 
-readers_once : (is_wanted : ReaderConfig → Bool) (topic : ℕ) (peers : List PeerConfig)
+readers_once : (is_wanted : ReaderConfig → Bool) (topic first : ℕ) (peers : List PeerConfig)
     → Once (λ (y : ReaderName). y.reader)
-    (of_matched_ends (λ (p : PeerConfig). p.readers) is_wanted (λ (r : ReaderConfig). r.topic) reader_name topic 1 peers)
-readers_once is_wanted topic peers =
+    (of_matched_ends (λ (p : PeerConfig). p.readers) is_wanted (λ (r : ReaderConfig). r.topic) reader_name topic first
+    peers)
+readers_once is_wanted topic first peers =
     ends_once (λ (p : PeerConfig). p.readers) is_wanted (λ (r : ReaderConfig). r.topic) reader_name
-    (λ (y : ReaderName). y.reader) (λ i p n r. refl) topic 1 peers
+    (λ (y : ReaderName). y.reader) (λ i p n r. refl) topic first peers
 
 -- the reliable readers, and all
-pub named_once : (topic : ℕ) (peers : List PeerConfig) → Once (λ (y : ReaderName). y.reader) (reader_names topic peers)
-named_once topic peers = readers_once is_reliable_reader topic peers
+pub named_once : (topic first : ℕ) (peers : List PeerConfig)
+    → Once (λ (y : ReaderName). y.reader) (reader_names topic first peers)
+named_once topic first peers = readers_once is_reliable_reader topic first peers
 
-pub all_once : (topic : ℕ) (peers : List PeerConfig) → Once (λ (y : ReaderName). y.reader) (all_names topic peers)
-all_once topic peers = readers_once any_reader topic peers
+pub all_once : (topic first : ℕ) (peers : List PeerConfig)
+    → Once (λ (y : ReaderName). y.reader) (all_names topic first peers)
+all_once topic first peers = readers_once any_reader topic first peers
 
 -- and the writers
-pub writers_once : (topic : ℕ) (peers : List PeerConfig) → Once (λ (n : WriterName). n.writer) (writer_names topic peers)
-writers_once topic peers =
+pub writers_once : (topic first : ℕ) (peers : List PeerConfig)
+    → Once (λ (n : WriterName). n.writer) (writer_names topic first peers)
+writers_once topic first peers =
     ends_once (λ (p : PeerConfig). p.writers) any_writer (λ (w : WriterConfig). w.topic) writer_name
-    (λ (n : WriterName). n.writer) (λ i p n w. refl) topic 1 peers
+    (λ (n : WriterName). n.writer) (λ i p n w. refl) topic first peers

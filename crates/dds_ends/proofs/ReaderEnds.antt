@@ -7,7 +7,7 @@ use Rattle.dds_base.specs.declared.config.ReaderConfig.{ReaderConfig}
 use Rattle.dds_base.specs.declared.config.WriterConfig.{WriterConfig}
 use Rattle.dds_base.specs.declared.qos.MatchedWriter.{MatchedWriter}
 use Rattle.dds_base.specs.declared.qos.ReaderQos.{ReaderQos}
-use Rattle.dds_base.specs.Matched.{same_topic, is_reliable, is_reliable_reader, of_matched_writers}
+use Rattle.dds_base.specs.Matched.{any_writer, same_topic, is_reliable, is_reliable_reader, of_ends_in, of_matched_writers}
 use Rattle.dds_cache.specs.Standing.{qos_of}
 use Rattle.dds_lease.specs.Standing.{writer_count}
 use Rattle.rtps_reader.specs.declared.attachment.Attachment.{Attachment as AttachmentOf}
@@ -130,15 +130,23 @@ all_begun topic peer (p ∷ ps) =
 
 -- ---- the reader
 
-pub opens_reader : (peers : List PeerConfig) (r : ReaderConfig) (names : List WriterName) (writers : List MatchedWriter)
+-- what is said of writers does not go by the numbers of their peers
+said_alike : (topic m n : ℕ) (ps : List PeerConfig)
+    → of_matched_writers matched_writer topic m ps ≡ of_matched_writers matched_writer topic n ps
+said_alike topic m n [] = refl
+said_alike topic m n (p ∷ ps) =
+    ap (λ (ws : List MatchedWriter). of_ends_in any_writer (λ (w : WriterConfig). w.topic) (matched_writer m p) topic 1
+    p.writers ++ ws) (said_alike topic (m + 1) (n + 1) ps)
+
+pub opens_reader : (first : ℕ) (peers : List PeerConfig) (r : ReaderConfig) (names : List WriterName) (writers : List MatchedWriter)
     (reader : Proxies) (store : StoreKept)
-    → names ≡ of_matched_writers writer_name r.topic 1 peers
-    → writers ≡ of_matched_writers matched_writer r.topic 1 peers
+    → names ≡ of_matched_writers writer_name r.topic first peers
+    → writers ≡ of_matched_writers matched_writer r.topic first peers
     → ((index : ℕ) → index < length names → Tracks reader index fresh)
     → ((index : ℕ) → index < length names → how_at reader index ≡ standing.Begun)
     → qos_of store.cache ≡ qos_with r writers → Holds store [] → (matches : MatchCounts) (here : ℕ)
     → CountsFor matches (opened_with (writers_of names)) → here ≡ length names
-    → OpensReader peers r
+    → OpensReader first peers r
     (record {
       entity = r.entity;
       writers = names;
@@ -148,65 +156,66 @@ pub opens_reader : (peers : List PeerConfig) (r : ReaderConfig) (names : List Wr
       matches = matches;
       here = here;
     })
-opens_reader peers r names writers reader store matched told nothing begun qos stands matches here counts here_is =
+opens_reader first peers r names writers reader store matched told nothing begun qos stands matches here counts here_is =
     record {
       identity =
           identity_as r.entity r.entity names _ (reliable_in store) (is_reliable_reader r) refl matched
           (ap (λ (q : ReaderQos). is_reliable q.reliability) qos);
       stands = record {
         writers_are = same;
-        places = λ w k h. place_is_one (matched_writers r.topic 1 peers) w k (are_ones r.topic 1 peers) h;
+        places = λ w k h. place_is_one (matched_writers r.topic first peers) w k (are_ones r.topic first peers) h;
         knows = λ w k f. nothing k (get-within names k f.name f.at);
         others = λ w none. refl;
-        qos_is = sym (qos ∙ ap (λ (ws : List MatchedWriter). qos_with r ws) told);
+        qos_is = sym (qos
+            ∙ ap (λ (ws : List MatchedWriter). qos_with r ws) (told ∙ said_alike r.topic first 1 peers));
         holds = stands;
         seen_is = refl;
         hows = λ w k f.
-            how_there (matched_writers r.topic 1 peers) w k
+            how_there (matched_writers r.topic first peers) w k
             (subst (λ (es : List Endpoint). IsFirstOf es w k) (sym same) (is_first_of names w k f))
-            (all_begun r.topic 1 peers)
+            (all_begun r.topic first peers)
             ∙ sym (ap (λ (x : AttachmentOf). stood_as x) (begun k (get-within names k f.name f.at)));
         counts = subst (λ (es : List Endpoint). CountsFor matches (opened_with es)) (sym same) counts;
-        here_is = here_is ∙ (as_named ∙ sym (count_begun (matched_writers r.topic 1 peers) (all_begun r.topic 1 peers)));
+        here_is = here_is ∙ (as_named ∙ sym (count_begun (matched_writers r.topic first peers) (all_begun r.topic first peers)));
       };
     }
   where
-    same : proxied (matched_writers r.topic 1 peers) ≡ writers_of names
+    same : proxied (matched_writers r.topic first peers) ≡ writers_of names
     same =
-        map-matched_writers (λ (p : WriterProxy). p.writer) _ r.topic 1 peers
+        map-matched_writers (λ (p : WriterProxy). p.writer) _ r.topic first peers
         ∙ sym (ap (λ (ns : List WriterName). map (λ (n : WriterName). n.writer) ns) matched
-        ∙ map-matched_writers (λ (n : WriterName). n.writer) writer_name r.topic 1 peers)
+        ∙ map-matched_writers (λ (n : WriterName). n.writer) writer_name r.topic first peers)
 
-    as_named : length names ≡ length (matched_writers r.topic 1 peers)
+    as_named : length names ≡ length (matched_writers r.topic first peers)
     as_named =
         sym (length-map names (λ (n : WriterName). n.writer))
         ∙ (ap (λ (es : List Endpoint). length es) (sym same)
-        ∙ length-map (matched_writers r.topic 1 peers) (λ (p : WriterProxy). p.writer))
+        ∙ length-map (matched_writers r.topic first peers) (λ (p : WriterProxy). p.writer))
 
 -- there are as many names as writers in the policies, and no more than 256
-pub names_few : (peers : List PeerConfig) (r : ReaderConfig) (names : List WriterName) (writers : List MatchedWriter)
-    → names ≡ of_matched_writers writer_name r.topic 1 peers → writers ≡ of_matched_writers matched_writer r.topic 1 peers
+pub names_few : (first : ℕ) (peers : List PeerConfig) (r : ReaderConfig) (names : List WriterName) (writers : List MatchedWriter)
+    → names ≡ of_matched_writers writer_name r.topic first peers → writers ≡ of_matched_writers matched_writer r.topic first peers
     → length writers ≤ 256 → length names ≤ 256
-names_few peers r names writers matched told many =
-    let same = as_many writer_name matched_writer r.topic 1 peers in
-    let a : length names ≡ length (of_matched_writers writer_name r.topic 1 peers) =
+names_few first peers r names writers matched told many =
+    let same = as_many writer_name matched_writer r.topic first peers in
+    let a : length names ≡ length (of_matched_writers writer_name r.topic first peers) =
     ap (λ (ns : List WriterName). length ns) matched in
-    let b : length writers ≡ length (of_matched_writers matched_writer r.topic 1 peers) =
+    let b : length writers ≡ length (of_matched_writers matched_writer r.topic first peers) =
     ap (λ (ws : List MatchedWriter). length ws) told in
     omega (arith, same, a, b, many)
 
 -- there are as many rows as writers in the policies
-pub rows_fit : (peers : List PeerConfig) (r : ReaderConfig) (names : List WriterName) (writers : List MatchedWriter)
-    (reader : Proxies) (store : StoreKept) → names ≡ of_matched_writers writer_name r.topic 1 peers
-    → writers ≡ of_matched_writers matched_writer r.topic 1 peers → count_of reader ≡ length names
+pub rows_fit : (first : ℕ) (peers : List PeerConfig) (r : ReaderConfig) (names : List WriterName) (writers : List MatchedWriter)
+    (reader : Proxies) (store : StoreKept) → names ≡ of_matched_writers writer_name r.topic first peers
+    → writers ≡ of_matched_writers matched_writer r.topic first peers → count_of reader ≡ length names
     → qos_of store.cache ≡ qos_with r writers → writer_count store.leases ≡ length writers → length writers ≤ 256
     → (reliable : Bool)
     → reliable ≡ is_reliable_reader r → FitsWriters names reader store reliable
-rows_fit peers r names writers reader store matched told count qos counted many reliable is =
-    let same = as_many writer_name matched_writer r.topic 1 peers in
-    let a : length names ≡ length (of_matched_writers writer_name r.topic 1 peers) =
+rows_fit first peers r names writers reader store matched told count qos counted many reliable is =
+    let same = as_many writer_name matched_writer r.topic first peers in
+    let a : length names ≡ length (of_matched_writers writer_name r.topic first peers) =
     ap (λ (ns : List WriterName). length ns) matched in
-    let b : length writers ≡ length (of_matched_writers matched_writer r.topic 1 peers) =
+    let b : length writers ≡ length (of_matched_writers matched_writer r.topic first peers) =
     ap (λ (ws : List MatchedWriter). length ws) told in
     record {
       policy = ap (λ (q : ReaderQos). is_reliable q.reliability) qos ∙ sym is;

@@ -43,7 +43,7 @@ use Rattle.dds_ends.proofs.Acknowledging.{state_as}
 use Rattle.dds_ends.proofs.FewAt.{few_opened}
 use Rattle.dds_ends.proofs.FirstPeers.{any-map}
 use Rattle.dds_ends.proofs.Lists.{any_either}
-use Rattle.dds_ends.proofs.MatchedAt.{sent_opened, matched_opened, named_at, named_is, once_named}
+use Rattle.dds_ends.proofs.MatchedAt.{matched_opened, named_at, named_is, once_named, sent_opened}
 use Rattle.dds_ends.proofs.Once.{all_once, named_once}
 use Rattle.dds_ends.proofs.Tables.{map-matched_readers, map-reliable_readers, told_alike}
 
@@ -85,24 +85,25 @@ count_there names reader is = same names ∙ is
     same [] = refl
     same (n ∷ ns) = ap (λ (b : Bool). same_endpoint n.reader reader || b) (same ns)
 
-rows_opened : (peers : List PeerConfig) (topic : ℕ)
-    → AreRows (all_names topic peers) (reader_names topic peers) (map first_count (reader_names topic peers))
-rows_opened peers topic = record {
-  once = once_named (reader_names topic peers) (named_once topic peers);
+rows_opened : (topic first : ℕ) (peers : List PeerConfig)
+    → AreRows (all_names topic first peers) (reader_names topic first peers)
+    (map first_count (reader_names topic first peers))
+rows_opened topic first peers = record {
+  once = once_named (reader_names topic first peers) (named_once topic first peers);
   among = λ reader is.
-      let f = named_at (reader_names topic peers) reader is in
-      named_is (all_names topic peers) reader
-      (subst (λ (e : Endpoint). Contains (readers_of (all_names topic peers)) e) f.3
-      (matched_opened peers topic f.0 f.1 f.2));
-  places = λ reader is. count_there (reader_names topic peers) reader is;
+      let f = named_at (reader_names topic first peers) reader is in
+      named_is (all_names topic first peers) reader
+      (subst (λ (e : Endpoint). Contains (readers_of (all_names topic first peers)) e) f.3
+      (matched_opened topic first peers f.0 f.1 f.2));
+  places = λ reader is. count_there (reader_names topic first peers) reader is;
 }
 
 -- the names of the readers of the topic
-names_opened : (peers : List PeerConfig) (topic : ℕ) (known : List TopicName) → known ≡ topic_names topic peers
-    → names_of known ≡ all_names topic peers
-names_opened peers topic known knows =
+names_opened : (topic first : ℕ) (peers : List PeerConfig) (known : List TopicName)
+    → known ≡ topic_names topic first peers → names_of known ≡ all_names topic first peers
+names_opened topic first peers known knows =
     ap (λ (ks : List TopicName). names_of ks) knows
-    ∙ map-matched_readers (λ (k : TopicName). k.name) topic_name topic 1 peers
+    ∙ map-matched_readers (λ (k : TopicName). k.name) topic_name topic first peers
 
 -- what looks alike of each row is of one value
 rows_begun : (rows : List ReaderProxy) (count : ℕ) → map (λ (p : ReaderProxy). p.acknowledged) rows ≡ replicate count 1
@@ -120,14 +121,14 @@ rows_begun (p ∷ ps) (suc count) same =
     rest : (a : ℕ) (xs ys : List ℕ) → a ∷ xs ≡ 1 ∷ ys → xs ≡ ys
     rest a xs ys e = cc
 
-pub opens_writer : (peers : List PeerConfig) (w : WriterConfig) (known : List TopicName) (es : List ReaderName)
+pub opens_writer : (first : ℕ) (peers : List PeerConfig) (w : WriterConfig) (known : List TopicName) (es : List ReaderName)
     (ds : List Destination) (names : List ReaderName) (lasts : List LastCount) (matches : MatchCounts) (limit : Option ℕ)
-    (strength : Option ℤ) (kept : Kept) (count : ℕ) → count ≡ length names → known ≡ topic_names w.topic peers
+    (strength : Option ℤ) (kept : Kept) (count : ℕ) → count ≡ length names → known ≡ topic_names w.topic first peers
     → es ≡ names_of known → CountsFor matches (opened_with (readers_of es)) → lasts ≡ map first_count names
-    → ds ≡ destinations w.topic 1 peers → names ≡ reader_names w.topic peers → limit ≡ limit_of w.max_samples
+    → ds ≡ destinations w.topic first peers → names ≡ reader_names w.topic first peers → limit ≡ limit_of w.max_samples
     → strength ≡ carried w.ownership w.strength
     → RtpsStandsFor kept (opening w.history limit w.lease strength count)
-    → OpensWriter peers w
+    → OpensWriter first peers w
     (record {
       entity = w.entity;
       autodispose = w.autodispose;
@@ -140,42 +141,42 @@ pub opens_writer : (peers : List PeerConfig) (w : WriterConfig) (known : List To
       matches = matches;
       writer = kept;
     })
-opens_writer peers w known es ds names lasts matches limit strength kept count counted knows named opened first sent
+opens_writer first peers w known es ds names lasts matches limit strength kept count counted knows named opened nobody sent
     matched limited carries stands =
-    let rows : List ReaderProxy = reliable_readers w.topic 1 peers in
-    let ends : es ≡ all_names w.topic peers = named ∙ names_opened peers w.topic known knows in
-    let matched_are : map (λ (n : ReaderName). n.reader) es ≡ matched_readers w.topic 1 peers =
+    let rows : List ReaderProxy = reliable_readers w.topic first peers in
+    let ends : es ≡ all_names w.topic first peers = named ∙ names_opened w.topic first peers known knows in
+    let matched_are : map (λ (n : ReaderName). n.reader) es ≡ matched_readers w.topic first peers =
     ap (λ (ns : List ReaderName). readers_of ns) ends
-    ∙ map-matched_readers (λ (n : ReaderName). n.reader) reader_name w.topic 1 peers in
-    let many : length (reader_names w.topic peers) ≡ count =
+    ∙ map-matched_readers (λ (n : ReaderName). n.reader) reader_name w.topic first peers in
+    let many : length (reader_names w.topic first peers) ≡ count =
     sym (counted ∙ ap (λ (ns : List ReaderName). length ns) matched) in
     let acknowledged : map (λ (p : ReaderProxy). p.acknowledged) rows ≡ replicate count 1 =
-    map-reliable_readers (λ (p : ReaderProxy). p.acknowledged) _ w.topic 1 peers
-    ∙ (told_alike 1 reader_name w.topic 1 peers ∙ ap (λ (n : ℕ). replicate n 1) many) in
+    map-reliable_readers (λ (p : ReaderProxy). p.acknowledged) _ w.topic first peers
+    ∙ (told_alike 1 reader_name w.topic first peers ∙ ap (λ (n : ℕ). replicate n 1) many) in
     let owed : map (λ (p : ReaderProxy). p.first) rows ≡ replicate count 1 =
-    map-reliable_readers (λ (p : ReaderProxy). p.first) _ w.topic 1 peers
-    ∙ (told_alike 1 reader_name w.topic 1 peers ∙ ap (λ (n : ℕ). replicate n 1) many) in
+    map-reliable_readers (λ (p : ReaderProxy). p.first) _ w.topic first peers
+    ∙ (told_alike 1 reader_name w.topic first peers ∙ ap (λ (n : ℕ). replicate n 1) many) in
     let none : Option ℤ = None in
     let counts : map (λ (p : ReaderProxy). none) rows ≡ replicate count none =
-    map-reliable_readers (λ (p : ReaderProxy). none) _ w.topic 1 peers
-    ∙ (told_alike none reader_name w.topic 1 peers ∙ ap (λ (n : ℕ). replicate n none) many) in
+    map-reliable_readers (λ (p : ReaderProxy). none) _ w.topic first peers
+    ∙ (told_alike none reader_name w.topic first peers ∙ ap (λ (n : ℕ). replicate n none) many) in
     let asks : map (λ (p : ReaderProxy). false) rows ≡ replicate count false =
-    map-reliable_readers (λ (p : ReaderProxy). false) _ w.topic 1 peers
-    ∙ (told_alike false reader_name w.topic 1 peers ∙ ap (λ (n : ℕ). replicate n false) many) in
+    map-reliable_readers (λ (p : ReaderProxy). false) _ w.topic first peers
+    ∙ (told_alike false reader_name w.topic first peers ∙ ap (λ (n : ℕ). replicate n false) many) in
     record {
       identity =
           identity_as w known _ es _ ds _ names _ lasts _ knows ends sent matched
-          (first ∙ ap (λ (ns : List ReaderName). map first_count ns) matched);
+          (nobody ∙ ap (λ (ns : List ReaderName). map first_count ns) matched);
       stands = record {
         autodispose = refl;
         values = refl;
         known =
             sym (ap (λ (ks : List TopicName). map topic_reader ks) knows
-            ∙ map-matched_readers topic_reader topic_name w.topic 1 peers);
+            ∙ map-matched_readers topic_reader topic_name w.topic first peers);
         matched = sym matched_are;
-        readers = map-reliable_readers (λ (p : ReaderProxy). p.reader) _ w.topic 1 peers
+        readers = map-reliable_readers (λ (p : ReaderProxy). p.reader) _ w.topic first peers
             ∙ sym (ap (λ (ns : List ReaderName). map (λ (n : ReaderName). n.reader) ns) matched
-            ∙ map-reliable_readers (λ (n : ReaderName). n.reader) reader_name w.topic 1 peers);
+            ∙ map-reliable_readers (λ (n : ReaderName). n.reader) reader_name w.topic first peers);
         writer =
             subst (λ (s : WriterState). RtpsStandsFor kept s)
             (state_as (opening w.history (limit_of w.max_samples) w.lease (carried w.ownership w.strength) count)
@@ -188,12 +189,12 @@ opens_writer peers w known es ds names lasts matches limit strength kept count c
         begun = All-from_recursion CountsFrom1 rows (rows_begun rows count acknowledged);
         rows =
             subst (λ (ns : List ReaderName). AreRows ns names lasts) (sym ends)
-            (subst (λ (ns : List ReaderName). AreRows (all_names w.topic peers) ns lasts) (sym matched)
-            (subst (λ (ls : List LastCount). AreRows (all_names w.topic peers) (reader_names w.topic peers) ls)
-            (sym (first ∙ ap (λ (ns : List ReaderName). map first_count ns) matched))
-            (rows_opened peers w.topic)));
+            (subst (λ (ns : List ReaderName). AreRows (all_names w.topic first peers) ns lasts) (sym matched)
+            (subst (λ (ls : List LastCount). AreRows (all_names w.topic first peers) (reader_names w.topic first peers) ls)
+            (sym (nobody ∙ ap (λ (ns : List ReaderName). map first_count ns) matched))
+            (rows_opened w.topic first peers)));
         quiet = λ reader is none. refl;
-        counted = λ reader none. never_left names reader ∙ ap (λ (ls : List LastCount). last_count ls reader) (sym first);
+        counted = λ reader none. never_left names reader ∙ ap (λ (ls : List LastCount). last_count ls reader) (sym nobody);
         matches = subst (λ (rs : List Endpoint). CountsFor matches (opened_with rs)) matched_are opened;
       };
     }
@@ -207,33 +208,33 @@ nothing_short most number change at = by (nat_lt 0 number) (slice_get [] (number
     by true o none h = absurd cc
     by false o none h = absurd cc
 
-pub whole_opened : (peers : List PeerConfig) (w : WriterConfig) (known : List TopicName) (es : List ReaderName)
+pub whole_opened : (first : ℕ) (peers : List PeerConfig) (w : WriterConfig) (known : List TopicName) (es : List ReaderName)
     (ds : List Destination) (names : List ReaderName) (limit : Option ℕ) (strength : Option ℤ) (kept : Kept) (count : ℕ)
-    → check_refusal peers ≡ None → known ≡ topic_names w.topic peers → length known ≤ 256 → es ≡ names_of known
-    → ds ≡ destinations w.topic 1 peers → length ds ≤ 16 → names ≡ reader_names w.topic peers → length names ≤ 256
+    → check_refusal peers ≡ None → known ≡ topic_names w.topic first peers → length known ≤ 256 → es ≡ names_of known
+    → ds ≡ destinations w.topic first peers → length ds ≤ 16 → names ≡ reader_names w.topic first peers → length names ≤ 256
     → reader_count kept ≡ count → count ≡ length names
     → RtpsStandsFor kept (opening w.history limit w.lease strength count)
     → IsWhole w.max_value known es ds names kept
-whole_opened peers w known es ds names limit strength kept count fits knows limited named sent few matched many rows
+whole_opened first peers w known es ds names limit strength kept count fits knows limited named sent few matched many rows
     counted stands = record {
       limited = omega (arith, limited);
       few_at =
-          subst (λ (ns : List ReaderName). AreFew (readers_of ns)) (sym ends ∙ named) (few_opened w.topic peers fits);
+          subst (λ (ns : List ReaderName). AreFew (readers_of ns)) (sym ends ∙ named) (few_opened w.topic first peers fits);
       matched_are = record {
         once =
             subst (λ (ns : List ReaderName). AreNamedOnce ns) (sym ends)
-            (once_named (all_names w.topic peers) (all_once w.topic peers));
+            (once_named (all_names w.topic first peers) (all_once w.topic first peers));
         there = λ e is. ap (λ (ns : List ReaderName). is_named ns e) (sym named) ∙ is;
       };
       once =
           subst (λ (ns : List ReaderName). AreNamedOnce ns) (sym matched)
-          (once_named (reader_names w.topic peers) (named_once w.topic peers));
+          (once_named (reader_names w.topic first peers) (named_once w.topic first peers));
       among = λ e is.
           ap (λ (ns : List ReaderName). is_named ns e) ends
-          ∙ (rows_opened peers w.topic).among e (ap (λ (ns : List ReaderName). is_named ns e) (sym matched) ∙ is);
+          ∙ (rows_opened w.topic first peers).among e (ap (λ (ns : List ReaderName). is_named ns e) (sym matched) ∙ is);
       told =
           ap (λ (ns : List ReaderName). peers_of (readers_of ns)) ends
-          ∙ (sent_opened peers w.topic
+          ∙ (sent_opened w.topic first peers
           ∙ sym (ap (λ (xs : List Destination). map (λ (d : Destination). d.peer) xs) sent));
       few = omega (arith, few);
       many = omega (arith, many);
@@ -243,8 +244,8 @@ whole_opened peers w known es ds names limit strength kept count fits knows limi
       short = nothing_short w.max_value;
     }
   where
-    ends : es ≡ all_names w.topic peers
-    ends = named ∙ names_opened peers w.topic known knows
+    ends : es ≡ all_names w.topic first peers
+    ends = named ∙ names_opened w.topic first peers known knows
 
 -- a writer, by what its end has once it is open
 abbrev pub kept_as : EntityId → Bool → ℕ → List TopicName → List ReaderName → List Destination → List ReaderName → List LastCount

@@ -26,26 +26,27 @@ abbrev pub topic_names_in : ℕ → PeerConfig → ℕ → ℕ → List ReaderCo
 topic_names_in peer p topic number rs =
     of_ends_in any_reader (λ (r : ReaderConfig). r.topic) (topic_name peer p) topic number rs
 
--- the readers of the topic, and whether each is a reliable one, in the order of the configuration
-abbrev pub topic_names : ℕ → List PeerConfig → List TopicName
-topic_names topic peers = of_matched_readers topic_name topic 1 peers
+-- the readers of the topic, and whether each is a reliable one, in the order of the configuration; the first of these
+-- peers has this number
+abbrev pub topic_names : ℕ → ℕ → List PeerConfig → List TopicName
+topic_names topic first peers = of_matched_readers topic_name topic first peers
 
--- the readers of the topic, reliable or not, in the order of the configuration
-abbrev pub all_names : ℕ → List PeerConfig → List ReaderName
-all_names topic peers = of_matched_readers reader_name topic 1 peers
+-- the readers of the topic, reliable or not, likewise
+abbrev pub all_names : ℕ → ℕ → List PeerConfig → List ReaderName
+all_names topic first peers = of_matched_readers reader_name topic first peers
 
--- the reliable readers of the topic, in the order of the configuration
-abbrev pub reader_names : ℕ → List PeerConfig → List ReaderName
-reader_names topic peers = of_reliable_readers reader_name topic 1 peers
+-- the reliable readers of the topic, likewise
+abbrev pub reader_names : ℕ → ℕ → List PeerConfig → List ReaderName
+reader_names topic first peers = of_reliable_readers reader_name topic first peers
 
 -- the name of a writer
 abbrev pub writer_name : ℕ → PeerConfig → ℕ → WriterConfig → WriterName
 writer_name peer p number w =
     record { writer = record { peer = peer; number = number }; guid = record { prefix = p.prefix; entity = w.entity } }
 
--- the writers of the topic, in the order of their publication handles
-abbrev pub writer_names : ℕ → List PeerConfig → List WriterName
-writer_names topic peers = of_matched_writers writer_name topic 1 peers
+-- the writers of the topic, in the order of their publication handles; the first of these peers has this number
+abbrev pub writer_names : ℕ → ℕ → List PeerConfig → List WriterName
+writer_names topic first peers = of_matched_writers writer_name topic first peers
 
 -- what a reader's QoS says of a matched writer
 abbrev pub matched_writer : ℕ → PeerConfig → ℕ → WriterConfig → MatchedWriter

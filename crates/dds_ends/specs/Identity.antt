@@ -74,18 +74,18 @@ abbrev pub reader_identity : ReaderKept → ReaderIdentity
 reader_identity r =
     record { entity = r.entity; writers = r.writers; reliable = reliable_in r.store }
 
--- a writer at its opening, as the configuration says it
-abbrev pub configured_writer : List PeerConfig → WriterConfig → WriterIdentity
-configured_writer peers w =
+-- a writer at its opening, as the configuration says it; the first of these peers has this number
+abbrev pub configured_writer : ℕ → List PeerConfig → WriterConfig → WriterIdentity
+configured_writer first peers w =
     record {
       entity = w.entity;
       autodispose = w.autodispose;
       max_value = w.max_value;
-      known = topic_names w.topic peers;
-      matched = all_names w.topic peers;
-      destinations = destinations w.topic 1 peers;
-      readers = reader_names w.topic peers;
-      counts = map first_count (reader_names w.topic peers);
+      known = topic_names w.topic first peers;
+      matched = all_names w.topic first peers;
+      destinations = destinations w.topic first peers;
+      readers = reader_names w.topic first peers;
+      counts = map first_count (reader_names w.topic first peers);
     }
 
 -- a writer of the roster, with those that it is matched with now
@@ -100,7 +100,7 @@ pub record IsReaderOf (roster : Roster) (reader : Endpoint) (is : ReaderIdentity
   pub reliable : roster.is_reliable reader ≡ is.reliable
   pub writers : AreKnownWriters roster reader is.writers
 
--- a reader at its opening, as the configuration says it
-abbrev pub configured_reader : List PeerConfig → ReaderConfig → ReaderIdentity
-configured_reader peers r =
-    record { entity = r.entity; writers = writer_names r.topic peers; reliable = is_reliable_reader r }
+-- a reader at its opening, likewise
+abbrev pub configured_reader : ℕ → List PeerConfig → ReaderConfig → ReaderIdentity
+configured_reader first peers r =
+    record { entity = r.entity; writers = writer_names r.topic first peers; reliable = is_reliable_reader r }

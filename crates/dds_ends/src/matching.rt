@@ -2,7 +2,7 @@
 //!
 //! RTPS 2.5, 8.4.7 (StatefulWriter, matched_readers), 8.4.10 (StatefulReader, matched_writers).
 
-ghost use Rattle.std.specs.Prelude.{◌≡◌, ◌+◌, ◌++◌, ◌≤◌, length, map, IfOk, OnOk, None};
+ghost use Rattle.std.specs.Prelude.{◌≡◌, ◌+◌, ◌++◌, ◌^◌, ◌≤◌, length, map, IfOk, OnOk, None};
 ghost use Rattle.dds_base.specs.Bounds.{max_ends, max_peers, max_readers};
 ghost use Rattle.dds_base.specs.Checked.{check_refusal};
 ghost use Rattle.dds_base.specs.Matched.{of_matched_writers};
@@ -71,21 +71,23 @@ fn has_reader(peer: &PeerConfig, topic: u32) -> bool
     peer.readers.as_slice().iter().any(|r| r.topic == topic)
 }
 
-/// The peers with a reader of the topic.
+/// The peers with a reader of the topic; the first of these peers has this number.
 pub fn destinations(
     alloc: Global,
+    first: u32,
     peers: &[PeerConfig],
     topic: u32,
 ) -> Result<Vec<Destination>, AllocError>
     requires few { length peers.now ≤ max_peers }
-    ensures names { IfOk result (λ all. all.items ≡ destinations topic 1 peers.now) }
+    requires room { first + length peers.now ≤ 2 ^ 32 }
+    ensures names { IfOk result (λ all. all.items ≡ destinations topic first peers.now) }
     ensures few { IfOk result (λ all. length all.items ≤ max_peers) }
 {
     let mut all = Vec::new(alloc);
     for (index, peer) in peers.iter().enumerate() {
         if has_reader(peer, topic) {
             all.push(Destination {
-                peer: (index + 1) as u32,
+                peer: index as u32 + first,
                 prefix: peer.prefix,
             })?;
         }
@@ -127,19 +129,21 @@ fn push_topic_names(
     Ok(())
 }
 
-/// The readers of the topic, reliable or not.
+/// The readers of the topic, reliable or not; the first of these peers has this number.
 pub fn topic_names(
     alloc: Global,
+    first: u32,
     peers: &[PeerConfig],
     topic: u32,
 ) -> Result<Vec<TopicName>, AllocError>
     requires checked { check_refusal peers.now ≡ None }
-    ensures names { IfOk result (λ all. all.items ≡ topic_names topic peers.now) }
+    requires room { first + length peers.now ≤ 2 ^ 32 }
+    ensures names { IfOk result (λ all. all.items ≡ topic_names topic first peers.now) }
     ensures many { IfOk result (λ all. length all.items ≤ max_readers) }
 {
     let mut all = Vec::new(alloc);
     for (index, peer) in peers.iter().enumerate() {
-        push_topic_names(&mut all, (index + 1) as u32, peer, topic)?;
+        push_topic_names(&mut all, index as u32 + first, peer, topic)?;
     }
     Ok(all)
 }
@@ -199,19 +203,21 @@ fn push_readers(
     Ok(())
 }
 
-/// The reliable readers that a writer of the topic is matched with.
+/// The reliable readers that a writer of the topic is matched with; the first of these peers has this number.
 pub fn reliable_readers(
     alloc: Global,
+    first: u32,
     peers: &[PeerConfig],
     topic: u32,
 ) -> Result<Vec<ReaderName>, AllocError>
     requires checked { check_refusal peers.now ≡ None }
-    ensures names { IfOk result (λ all. all.items ≡ reader_names topic peers.now) }
+    requires room { first + length peers.now ≤ 2 ^ 32 }
+    ensures names { IfOk result (λ all. all.items ≡ reader_names topic first peers.now) }
     ensures many { IfOk result (λ all. length all.items ≤ max_readers) }
 {
     let mut all = Vec::new(alloc);
     for (index, peer) in peers.iter().enumerate() {
-        push_readers(&mut all, (index + 1) as u32, peer, topic)?;
+        push_readers(&mut all, index as u32 + first, peer, topic)?;
     }
     Ok(all)
 }
@@ -263,17 +269,19 @@ fn push_writers(
     Ok(())
 }
 
-/// The writers that a reader of the topic is matched with.
+/// The writers that a reader of the topic is matched with; the first of these peers has this number.
 pub fn matched_writers(
     alloc: Global,
+    first: u32,
     peers: &[PeerConfig],
     topic: u32,
 ) -> Result<MatchedWriters, AllocError>
     requires checked { check_refusal peers.now ≡ None }
+    requires room { first + length peers.now ≤ 2 ^ 32 }
     ensures names { IfOk result
-        (λ all. all.names.items ≡ of_matched_writers writer_name topic 1 peers.now) }
+        (λ all. all.names.items ≡ of_matched_writers writer_name topic first peers.now) }
     ensures qos { IfOk result
-        (λ all. all.qos.items ≡ of_matched_writers matched_writer topic 1 peers.now) }
+        (λ all. all.qos.items ≡ of_matched_writers matched_writer topic first peers.now) }
     ensures many { IfOk result (λ all. length all.qos.items ≤ 256) }
 {
     let mut all = MatchedWriters {
@@ -281,7 +289,7 @@ pub fn matched_writers(
         qos: Vec::new(alloc),
     };
     for (index, peer) in peers.iter().enumerate() {
-        push_writers(&mut all, (index + 1) as u32, peer, topic)?;
+        push_writers(&mut all, index as u32 + first, peer, topic)?;
     }
     Ok(all)
 }

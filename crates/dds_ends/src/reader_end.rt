@@ -2,7 +2,7 @@
 //!
 //! RTPS 2.5, 8.4.10 (StatefulReader, WriterProxy); DDS 1.4, 2.2.2.5 (DataReader).
 
-ghost use Rattle.std.specs.Prelude.{◌≡◌, ◌↔◌, ◌<◌, ◌≤◌, ℕ, length, slice_get, None, Some, IsTrue, IfSome, IfNone, IfOk, Ok};
+ghost use Rattle.std.specs.Prelude.{◌≡◌, ◌^◌, ◌+◌, ◌↔◌, ◌<◌, ◌≤◌, ℕ, length, slice_get, None, Some, IsTrue, IfSome, IfNone, IfOk, Ok};
 ghost use Rattle.dds_base.specs.Checked.{check_refusal};
 ghost use Rattle.rtps_wire.specs.declared.submessage.Submessage.TheVariants as submessage;
 ghost use Rattle.rtps_reader.specs.Tracked.{Tracked};
@@ -79,16 +79,18 @@ fn find(names: &[WriterName], guid: &Guid) -> Option<usize>
 }
 
 impl ReaderEnd {
-    /// A reader of a peer, at which nothing has happened.
+    /// A reader of a peer, at which nothing has happened; the first of these peers has this number.
     pub fn open(
         alloc: Global,
+        first: u32,
         peers: &[PeerConfig],
         config: &ReaderConfig,
     ) -> Result<ReaderEnd, AllocError>
         requires checked { check_refusal peers.now ≡ None }
-        ensures { IfOk result (OpensReader peers.now config.now) }
+        requires room { first + length peers.now ≤ 2 ^ 32 }
+        ensures { IfOk result (OpensReader first peers.now config.now) }
     {
-        let MatchedWriters { names, qos } = matched_writers(alloc, peers, config.topic)?;
+        let MatchedWriters { names, qos } = matched_writers(alloc, first, peers, config.topic)?;
         let here = names.len();
         let matches = MatchCounts::with_writers(names.as_slice());
         // Its only refusal is for want of memory.

@@ -102,19 +102,21 @@ impl Model for WriterEnd {
 }
 
 impl WriterEnd {
-    /// A writer of a peer, which has written nothing.
+    /// A writer of a peer, which has written nothing; the first of these peers has this number.
     pub fn open(
         alloc: Global,
+        first: u32,
         peers: &[PeerConfig],
         config: &WriterConfig,
     ) -> Result<WriterEnd, AllocError>
         requires checked { check_refusal peers.now ≡ None }
-        ensures { IfOk result (OpensWriter peers.now config.now) }
+        requires room { first + length peers.now ≤ 2 ^ 32 }
+        ensures { IfOk result (OpensWriter first peers.now config.now) }
     {
-        let known = topic_names(alloc, peers, config.topic)?;
+        let known = topic_names(alloc, first, peers, config.topic)?;
         let matched = names_of(alloc, known.as_slice())?;
-        let destinations = destinations(alloc, peers, config.topic)?;
-        let readers = reliable_readers(alloc, peers, config.topic)?;
+        let destinations = destinations(alloc, first, peers, config.topic)?;
+        let readers = reliable_readers(alloc, first, peers, config.topic)?;
         let counts = first_counts(alloc, readers.as_slice())?;
         let limit = limit_of(config.max_samples);
         let (history, lease) = (config.history, config.lease);

@@ -48,16 +48,17 @@ names_more entity_of reliable_of prefix peer i es d old new n all lt more is bef
     ∙ (sym (ap (λ (xs : List _). map name_of old ++ names_in entity_of reliable_of prefix peer (i + 1) xs)
     (drop_more es i d lt)) ∙ before))))
 
--- all ends of one peer more
+-- all ends of one peer more, of this number
 pub names_on : (named : ℕ → List PeerConfig → List Name) (names : ℕ → PeerConfig → List Name)
     → ((n : ℕ) (p : PeerConfig) (ps : List PeerConfig) → named n (p ∷ ps) ≡ names n p ++ named (n + 1) ps)
-    → (i : ℕ) (peers : List PeerConfig) (d : PeerConfig) (old new : List NamedEnd) (all : List Name)
-    → i < length peers → map name_of new ≡ map name_of old ++ names (i + 1) (get_or peers i d)
-    → map name_of old ++ named (i + 1) (drop i peers) ≡ all
-    → map name_of new ++ named (i + 1 + 1) (drop (i + 1) peers) ≡ all
-names_on named names step i peers d old new all lt more before =
-    let rest : List Name = named (i + 1 + 1) (drop (i + 1) peers) in
-    ap (λ (ns : List Name). ns ++ rest) more
-    ∙ (append_assoc (map name_of old) (names (i + 1) (get_or peers i d)) rest
-    ∙ (ap (λ (ns : List Name). map name_of old ++ ns) (sym (step (i + 1) (get_or peers i d) (drop (i + 1) peers)))
-    ∙ (sym (ap (λ (ps : List PeerConfig). map name_of old ++ named (i + 1) ps) (drop_more peers i d lt)) ∙ before)))
+    → (n next i : ℕ) (peers : List PeerConfig) (d : PeerConfig) (old new : List NamedEnd) (all : List Name)
+    → next ≡ n + 1 → i < length peers → map name_of new ≡ map name_of old ++ names n (get_or peers i d)
+    → map name_of old ++ named n (drop i peers) ≡ all
+    → map name_of new ++ named next (drop (i + 1) peers) ≡ all
+names_on named names step n next i peers d old new all is lt more before =
+    let rest : List Name = named (n + 1) (drop (i + 1) peers) in
+    ap (λ (m : ℕ). map name_of new ++ named m (drop (i + 1) peers)) is
+    ∙ (ap (λ (ns : List Name). ns ++ rest) more
+    ∙ (append_assoc (map name_of old) (names n (get_or peers i d)) rest
+    ∙ (ap (λ (ns : List Name). map name_of old ++ ns) (sym (step n (get_or peers i d) (drop (i + 1) peers)))
+    ∙ (sym (ap (λ (ps : List PeerConfig). map name_of old ++ named n ps) (drop_more peers i d lt)) ∙ before))))

@@ -2,7 +2,7 @@
 //!
 //! RTPS 2.5, 8.2 (GUID_t).
 
-ghost use Rattle.std.specs.Prelude.{◌≡◌, IfErr, IfOk, None, OnErr, OnOk};
+ghost use Rattle.std.specs.Prelude.{◌≡◌, ◌+◌, ◌^◌, ◌≤◌, IfErr, IfOk, None, OnErr, OnOk, length};
 ghost use Rattle.dds_base.specs.Checked.{check_refusal};
 ghost use Rattle.dds_base.specs.declared.code.Code.TheVariants.{Memory};
 ghost use Rattle.dds_machine.specs.Naming.{is_name_among, with_name};
@@ -111,19 +111,20 @@ impl KnownNames {
         }
     }
 
-    /// Those of all ends of these peers, which are numbered in their order.
+    /// Those of all ends of these peers, which are numbered in their order, from the number of the first.
     ///
     /// # Errors
     ///
     /// Where a growth was refused.
-    pub fn open(alloc: Global, peers: &[PeerConfig]) -> Result<KnownNames, AllocError>
+    pub fn open(alloc: Global, first: u32, peers: &[PeerConfig]) -> Result<KnownNames, AllocError>
         requires checked { check_refusal peers.now ≡ None }
+        requires room { first + length peers.now ≤ 2 ^ 32 }
         ensures { IfOk result (λ names. names
-            ≡ record { writers = writer_names 1 peers.now; readers = reader_names 1 peers.now }) }
+            ≡ record { writers = writer_names first peers.now; readers = reader_names first peers.now }) }
     {
         Ok(KnownNames {
-            writers: opening::writer_names(alloc, peers)?,
-            readers: opening::reader_names(alloc, peers)?,
+            writers: opening::writer_names(alloc, first, peers)?,
+            readers: opening::reader_names(alloc, first, peers)?,
         })
     }
 

@@ -2,7 +2,7 @@
 //!
 //! RTPS 2.5, 8.2 (Participant, Endpoint, GUID_t); DDS 1.4, 2.2.3 (RELIABILITY).
 
-ghost use Rattle.std.specs.Prelude.{◌≡◌, ◌++◌, ◌≤◌, true, length, map, IfOk, OnOk, None};
+ghost use Rattle.std.specs.Prelude.{◌≡◌, ◌+◌, ◌++◌, ◌^◌, ◌≤◌, true, length, map, IfOk, OnOk, None};
 ghost use Rattle.dds_base.specs.Bounds.{max_ends};
 ghost use Rattle.dds_base.specs.Checked.{check_refusal};
 ghost use Rattle.dds_base.specs.Matched.{is_reliable_reader};
@@ -71,16 +71,21 @@ fn push_readers(
     Ok(())
 }
 
-/// The names of all writers of these peers.
-pub(crate) fn writer_names(alloc: Global, peers: &[PeerConfig]) -> Result<Vec<NamedEnd>, AllocError>
+/// The names of all writers of these peers, the first of which has this number.
+pub(crate) fn writer_names(
+    alloc: Global,
+    first: u32,
+    peers: &[PeerConfig],
+) -> Result<Vec<NamedEnd>, AllocError>
     requires checked { check_refusal peers.now ≡ None }
-    ensures { IfOk result (λ all. map name_of all.items ≡ writer_names 1 peers.now) }
+    requires room { first + length peers.now ≤ 2 ^ 32 }
+    ensures { IfOk result (λ all. map name_of all.items ≡ writer_names first peers.now) }
 {
     let mut all = Vec::new(alloc);
     for (index, peer) in peers.iter().enumerate() {
         push_writers(
             &mut all,
-            (index + 1) as u32,
+            index as u32 + first,
             peer.prefix,
             peer.writers.as_slice(),
         )?;
@@ -89,15 +94,20 @@ pub(crate) fn writer_names(alloc: Global, peers: &[PeerConfig]) -> Result<Vec<Na
 }
 
 /// The names of all their readers.
-pub(crate) fn reader_names(alloc: Global, peers: &[PeerConfig]) -> Result<Vec<NamedEnd>, AllocError>
+pub(crate) fn reader_names(
+    alloc: Global,
+    first: u32,
+    peers: &[PeerConfig],
+) -> Result<Vec<NamedEnd>, AllocError>
     requires checked { check_refusal peers.now ≡ None }
-    ensures { IfOk result (λ all. map name_of all.items ≡ reader_names 1 peers.now) }
+    requires room { first + length peers.now ≤ 2 ^ 32 }
+    ensures { IfOk result (λ all. map name_of all.items ≡ reader_names first peers.now) }
 {
     let mut all = Vec::new(alloc);
     for (index, peer) in peers.iter().enumerate() {
         push_readers(
             &mut all,
-            (index + 1) as u32,
+            index as u32 + first,
             peer.prefix,
             peer.readers.as_slice(),
         )?;

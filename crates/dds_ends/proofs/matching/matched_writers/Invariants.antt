@@ -5,9 +5,9 @@ use Rattle.dds_ends.proofs.matching.matched_writers.Given as goal
 
 abbrev pub invariant-loop-index : goal.invariant-loop-index
 invariant-loop-index l = record {
-  names : l.all.names.items ++ of_matched_writers writer_name l.fn.topic (l.index + 1) (drop l.index l.fn.peers)
-      ≡ of_matched_writers writer_name l.fn.topic 1 l.fn.peers;
-  qos : l.all.qos.items ++ of_matched_writers matched_writer l.fn.topic (l.index + 1) (drop l.index l.fn.peers)
-      ≡ of_matched_writers matched_writer l.fn.topic 1 l.fn.peers;
+  names : l.all.names.items ++ of_matched_writers writer_name l.fn.topic (l.index + l.fn.first) (drop l.index l.fn.peers)
+      ≡ of_matched_writers writer_name l.fn.topic l.fn.first l.fn.peers;
+  qos : l.all.qos.items ++ of_matched_writers matched_writer l.fn.topic (l.index + l.fn.first) (drop l.index l.fn.peers)
+      ≡ of_matched_writers matched_writer l.fn.topic l.fn.first l.fn.peers;
   few : length l.all.qos.items ≤ 16 * l.index;
 }

@@ -5,7 +5,7 @@ use Rattle.dds_ends.proofs.matching.reliable_readers.Given as goal
 
 abbrev pub invariant-loop-index : goal.invariant-loop-index
 invariant-loop-index l = record {
-  names : l.all.items ++ of_reliable_readers reader_name l.fn.topic (l.index + 1) (drop l.index l.fn.peers)
-      ≡ reader_names l.fn.topic l.fn.peers;
+  names : l.all.items ++ of_reliable_readers reader_name l.fn.topic (l.index + l.fn.first) (drop l.index l.fn.peers)
+      ≡ reader_names l.fn.topic l.fn.first l.fn.peers;
   few : length l.all.items ≤ 16 * l.index;
 }

@@ -5,7 +5,7 @@ use Rattle.dds_ends.proofs.matching.topic_names.Given as goal
 
 abbrev pub invariant-loop-index : goal.invariant-loop-index
 invariant-loop-index l = record {
-  names : l.all.items ++ of_matched_readers topic_name l.fn.topic (l.index + 1) (drop l.index l.fn.peers)
-      ≡ topic_names l.fn.topic l.fn.peers;
+  names : l.all.items ++ of_matched_readers topic_name l.fn.topic (l.index + l.fn.first) (drop l.index l.fn.peers)
+      ≡ topic_names l.fn.topic l.fn.first l.fn.peers;
   few : length l.all.items ≤ 16 * l.index;
 }

@@ -1,4 +1,4 @@
-use Rattle.std.proofs.Common.{◌+◌, ◌++◌, ℕ, List, map, ap, refl, rules, ◌∙◌}
+use Rattle.std.proofs.Common.{◌+◌, ◌++◌, ℕ, List, map, ap, arith, refl, rules, ◌∙◌}
 use Rattle.dds_base.specs.Matched.{is_reliable_reader}
 use Rattle.dds_base.specs.declared.config.PeerConfig.{PeerConfig}
 use Rattle.dds_base.specs.declared.config.ReaderConfig.{ReaderConfig}
@@ -18,9 +18,9 @@ loop-index-preserved c =
     let pushed =
     c.in_ok-push_readers.ensures
     ∙ ap (λ (es : List ReaderConfig). map name_of c.loop-index.all.items
-    ++ names_in (λ (r : ReaderConfig). r.entity) is_reliable_reader peer.prefix (c.loop-index.index + 1) 1 es)
+    ++ names_in (λ (r : ReaderConfig). r.entity) is_reliable_reader peer.prefix (c.loop-index.index + c.args.first) 1 es)
     c.as_slice.ensures.elements in
-    names_on reader_names named (λ n p ps. refl) c.loop-index.index c.args.peers.now _ c.loop-index.all.items
-    c.push_readers.new.all.items _ (search rules)
-    (pushed ∙ ap (λ (p : PeerConfig). map name_of c.loop-index.all.items ++ named (c.loop-index.index + 1) p)
+    names_on reader_names named (λ n p ps. refl) (c.loop-index.index + c.args.first) (c.loop-index.index + 1 + c.args.first)
+    c.loop-index.index c.args.peers.now _ c.loop-index.all.items c.push_readers.new.all.items _ (omega arith) (search rules)
+    (pushed ∙ ap (λ (p : PeerConfig). map name_of c.loop-index.all.items ++ named (c.loop-index.index + c.args.first) p)
     c.index-peers-index.is) c.loop-index.invariant

@@ -1,4 +1,4 @@
-use Rattle.std.proofs.Common.{◌+◌, ◌++◌, ℕ, true, List, map, ap, refl, rules, ◌∙◌}
+use Rattle.std.proofs.Common.{◌+◌, ◌++◌, ℕ, true, List, map, ap, arith, refl, rules, ◌∙◌}
 use Rattle.dds_base.specs.declared.config.PeerConfig.{PeerConfig}
 use Rattle.dds_base.specs.declared.config.WriterConfig.{WriterConfig}
 use Rattle.dds_machine.specs.Opening.{names_in, writer_names}
@@ -17,9 +17,9 @@ loop-index-preserved c =
     let pushed =
     c.in_ok-push_writers.ensures
     ∙ ap (λ (es : List WriterConfig). map name_of c.loop-index.all.items
-    ++ names_in (λ (w : WriterConfig). w.entity) (λ w. true) peer.prefix (c.loop-index.index + 1) 1 es)
+    ++ names_in (λ (w : WriterConfig). w.entity) (λ w. true) peer.prefix (c.loop-index.index + c.args.first) 1 es)
     c.as_slice.ensures.elements in
-    names_on writer_names named (λ n p ps. refl) c.loop-index.index c.args.peers.now _ c.loop-index.all.items
-    c.push_writers.new.all.items _ (search rules)
-    (pushed ∙ ap (λ (p : PeerConfig). map name_of c.loop-index.all.items ++ named (c.loop-index.index + 1) p)
+    names_on writer_names named (λ n p ps. refl) (c.loop-index.index + c.args.first) (c.loop-index.index + 1 + c.args.first)
+    c.loop-index.index c.args.peers.now _ c.loop-index.all.items c.push_writers.new.all.items _ (omega arith) (search rules)
+    (pushed ∙ ap (λ (p : PeerConfig). map name_of c.loop-index.all.items ++ named (c.loop-index.index + c.args.first) p)
     c.index-peers-index.is) c.loop-index.invariant

@@ -5,4 +5,5 @@ use Rattle.dds_names.proofs.opening.writer_names.Given as goal
 
 abbrev pub invariant-loop-index : goal.invariant-loop-index
 invariant-loop-index l =
-    map name_of l.all.items ++ writer_names (l.index + 1) (drop l.index l.fn.peers) ≡ writer_names 1 l.fn.peers
+    map name_of l.all.items ++ writer_names (l.index + l.fn.first) (drop l.index l.fn.peers)
+    ≡ writer_names l.fn.first l.fn.peers

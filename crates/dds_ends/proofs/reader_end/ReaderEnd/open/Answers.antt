@@ -26,7 +26,7 @@ limits c =
 pub with_writers-matches-requires : goal.with_writers-matches-requires
 with_writers-matches-requires c =
     let few =
-    names_few c.args.peers.now c.args.config.now c.in_ok-names.field-0.names.items c.in_ok-names.field-0.qos.items
+    names_few c.args.first c.args.peers.now c.args.config.now c.in_ok-names.field-0.names.items c.in_ok-names.field-0.qos.items
     c.in_ok-names.ensures.names c.in_ok-names.ensures.qos c.in_ok-names.ensures.many in
     let count = ap (λ (ns : List WriterName). length ns) c.as_slice.ensures.value in
     record { few = omega (arith, few, count) }
@@ -34,14 +34,14 @@ with_writers-matches-requires c =
 pub overflow_cast-result : goal.overflow_cast-result
 overflow_cast-result c =
     let few =
-    names_few c.args.peers.now c.args.config.now c.in_ok-names.field-0.names.items c.in_ok-names.field-0.qos.items
+    names_few c.args.first c.args.peers.now c.args.config.now c.in_ok-names.field-0.names.items c.in_ok-names.field-0.qos.items
     c.in_ok-names.ensures.names c.in_ok-names.ensures.qos c.in_ok-names.ensures.many in
     let count = c.len-here.ensures ∙ c.in_ok-names.field-0.names.ok.0 in
     omega (arith, few, count)
 
 pub invariant_of-result-3 : goal.invariant_of-result-3
 invariant_of-result-3 c =
-    rows_fit c.args.peers.now c.args.config.now c.in_ok-names.field-0.names.items c.in_ok-names.field-0.qos.items
+    rows_fit c.args.first c.args.peers.now c.args.config.now c.in_ok-names.field-0.names.items c.in_ok-names.field-0.qos.items
     c.in-Ok.reader c.in-Ok-open.store c.in_ok-names.ensures.names c.in_ok-names.ensures.qos
     (c.in-Ok.ensures.count ∙ (c.len-here.ensures ∙ c.in_ok-names.field-0.names.ok.0))
     (c.in-Ok-open.ensures.qos
@@ -53,7 +53,7 @@ invariant_of-result-3 c =
 pub returns : goal.returns
 returns c =
     let count = c.len-here.ensures ∙ c.in_ok-names.field-0.names.ok.0 in
-    opens_reader c.args.peers.now c.args.config.now c.in_ok-names.field-0.names.items c.in_ok-names.field-0.qos.items
+    opens_reader c.args.first c.args.peers.now c.args.config.now c.in_ok-names.field-0.names.items c.in_ok-names.field-0.qos.items
     c.in-Ok.reader c.in-Ok-open.store c.in_ok-names.ensures.names c.in_ok-names.ensures.qos
     (λ index within. c.in-Ok.ensures.fresh index (subst (λ (n : ℕ). index < n) (sym count) within))
     (λ index within. c.in-Ok.ensures.begun index (subst (λ (n : ℕ). index < n) (sym count) within))

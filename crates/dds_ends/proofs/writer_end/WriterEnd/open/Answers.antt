@@ -35,7 +35,7 @@ returns c =
     c.in_ok-matched.ensures ∙ ap (λ (ks : List TopicName). names_of ks) c.as_slice.ensures.value in
     let first : c.in_ok-counts.counts.items ≡ map first_count c.in_ok-readers.readers.items =
     c.in_ok-counts.ensures ∙ ap (λ (ns : List ReaderName). map first_count ns) c.as_slice-2.ensures.value in
-    opens_writer c.args.peers.now c.args.config.now c.in_ok-known.known.items c.in_ok-matched.matched.items
+    opens_writer c.args.first c.args.peers.now c.args.config.now c.in_ok-known.known.items c.in_ok-matched.matched.items
     c.in_ok-destinations.destinations.items c.in_ok-readers.readers.items c.in_ok-counts.counts.items
     c.with_readers-matches.result c.limit_of-limit.result c.carried_strength-strength.result c.in-Ok.writer
     c.len-reliable.result counted c.in_ok-known.ensures.names named
@@ -46,7 +46,7 @@ returns c =
 
 pub invariant_of-result : goal.invariant_of-result
 invariant_of-result c =
-    whole_opened c.args.peers.now c.args.config.now c.in_ok-known.known.items c.in_ok-matched.matched.items
+    whole_opened c.args.first c.args.peers.now c.args.config.now c.in_ok-known.known.items c.in_ok-matched.matched.items
     c.in_ok-destinations.destinations.items c.in_ok-readers.readers.items c.limit_of-limit.result
     c.carried_strength-strength.result c.in-Ok.writer c.len-reliable.result c.requires.checked
     c.in_ok-known.ensures.names
