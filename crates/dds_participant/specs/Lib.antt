@@ -1,5 +1,3 @@
-pub mod Ports
-pub mod Moments
 pub mod Failures
 pub mod Words
 pub mod Sight

@@ -1,6 +1,5 @@
--- What the words of the command line ask for, and who is told of us.
-use Rattle.std.specs.Prelude.{◌≡◌, ℕ, ◌==◌, Bool, List, [], ◌∷◌, map, codes, Option, Some, None, if◌then◌else◌}
-use Rattle.std.specs.List.{flat_map, range_with_len}
+-- What the words of the command line ask for.
+use Rattle.std.specs.Prelude.{◌≡◌, ℕ, ◌==◌, Bool, List, [], ◌∷◌, codes, Option, Some, None, if◌then◌else◌}
 use Rattle.std.specs.Option.{option_and_then, option_map, option_or}
 use Rattle.std.specs.Str.{bytes_eq}
 use Rattle.dds_base.specs.Bounds.{usual_value}
@@ -13,8 +12,7 @@ use Rattle.discovery_script.specs.Addresses.{address_of, locator_of, number_belo
 use Rattle.dds_participant.specs.declared.samples.TypeKind.TheVariants.{Keyless}
 use Rattle.dds_participant.specs.declared.words.Purpose.TheVariants.{Watch}
 use Rattle.dds_participant.specs.declared.words.Request.{Request}
-use Rattle.dds_participant.specs.declared.words.Target.{Target}
-use Rattle.dds_participant.specs.Ports.{group_port, is_group, unicast_port}
+use Rattle.dds_live.specs.declared.addresses.Target.{Target}
 
 -- a domain has a number up to 230: above it ports end (RTPS 2.5, 9.6.2)
 abbrev pub domain_of : List ℕ → Option ℕ
@@ -61,27 +59,3 @@ with_option name word r =
     else if bytes_eq name (codes "--values")
     then option_map (λ (n : ℕ). record r { of = record r.of { max_value = n } }) (max_value_of word)
     else None
-
--- the ports of the first ten participants of a machine
-abbrev pub machine_locators : ℕ → List ℕ → List Locator
-machine_locators domain address =
-    map (λ (index : ℕ). record { address = address; port = unicast_port domain index }) (range_with_len 0 10)
-
--- where we are told of at an address: at its port, or at those of the domain
-abbrev pub locators_at : ℕ → List ℕ → Option ℕ → List Locator
-locators_at domain address (Some port) = record { address = address; port = port } ∷ []
-locators_at domain address None =
-    if is_group address then record { address = address; port = group_port domain } ∷ []
-    else machine_locators domain address
-
-abbrev pub locators_of : ℕ → Target → List Locator
-locators_of domain target = locators_at domain target.address target.port
-
--- where no address was said: the group of all participants, 239.255.0.1, and this machine (RTPS 2.5, 9.6.2)
-abbrev pub usual_targets : List Target
-usual_targets =
-    record { address = 239 ∷ 255 ∷ 0 ∷ 1 ∷ []; port = None } ∷ record { address = 127 ∷ 0 ∷ 0 ∷ 1 ∷ []; port = None } ∷ []
-
-abbrev pub all_locators : ℕ → List Target → List Locator
-all_locators domain [] = flat_map (locators_of domain) usual_targets
-all_locators domain targets = flat_map (locators_of domain) targets

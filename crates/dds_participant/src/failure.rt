@@ -4,6 +4,7 @@ ghost use Rattle.std.specs.Prelude.{◌≡◌};
 ghost use Rattle.dds_participant.specs.Failures.{exit_of};
 
 use dds_base::Code;
+use dds_live::Failure as LiveFailure;
 use dds_script::Fault;
 use std::alloc::{AllocError, AllocFailed};
 use std::net::Ipv4Addr;
@@ -18,21 +19,9 @@ pub enum Failure {
     /// Nothing goes to this address.
     #[error("no network: there is no route to {0}; `--interface ADDRESS` says which address is ours")]
     NoRoute(Ipv4Addr),
-    /// This address is not ours.
-    #[error("{0} is no address of this machine")]
-    NotOurs(Ipv4Addr),
-    /// All ports of the domain are taken.
-    #[error("each of the 120 ports of domain {0} is taken")]
-    NoPort(u32),
-    /// The socket does not work any more.
-    #[error("the socket failed")]
-    SocketFailed,
-    /// The system tells no time.
-    #[error("the clock failed")]
-    ClockFailed,
-    /// Our peer can't have so many endpoints.
-    #[error("at most 16 writers and 16 readers of ours exchange samples")]
-    TooManyEnds,
+    /// It does not begin, or does not go on, for another cause.
+    #[error("{0}")]
+    Live(LiveFailure),
     /// The input can't be read.
     #[error("input failed")]
     InputFailed,
@@ -42,9 +31,6 @@ pub enum Failure {
     /// The trace can't be opened or written, for this cause.
     #[error("the trace failed: {0}")]
     TraceFailed(String),
-    /// The system has no random octets for our name.
-    #[error("there are no random octets")]
-    NoRandom,
     /// There is no memory.
     #[error("memory")]
     Memory,
@@ -75,6 +61,16 @@ impl From<Code> for Failure {
 impl From<Fault> for Failure {
     fn from(_e: Fault) -> Failure {
         Failure::Memory
+    }
+}
+
+impl From<LiveFailure> for Failure {
+    fn from(e: LiveFailure) -> Failure {
+        match e {
+            LiveFailure::NoRoute(address) => Failure::NoRoute(address),
+            LiveFailure::Memory => Failure::Memory,
+            e => Failure::Live(e),
+        }
     }
 }
 

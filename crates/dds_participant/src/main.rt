@@ -4,10 +4,9 @@
 //! `listen` takes what is written for its topic and prints it with its SampleInfo, `say` writes what lines say. `--trace`
 //! writes what happened to our peer into a file, which `dds_pipe` answers as it did.
 //!
-//! Contracts say which ports are those of a domain, to whom we announce ourselves, what an option of one word sets, which
-//! lines are printed of what discovery told, and the exit status of a failure. They do not say how a participant, an
-//! endpoint, a sample or a trace is printed, which calls lines ask for, nor what sockets and the clock give: that is tested. What a
-//! participant does is proved in `dds_domain`.
+//! Contracts say what an option of one word sets, which lines are printed of what discovery told, and the exit status of a
+//! failure. They do not say how a participant, an endpoint, a sample or a trace is printed, nor which calls lines ask for:
+//! that is tested. What a participant does is proved in `dds_domain`, and on the network in `dds_live`.
 #![tactic(auto)]
 
 mod asked;
@@ -15,8 +14,6 @@ mod calls;
 mod entry;
 mod failure;
 mod line;
-mod moments;
-mod port;
 mod samples;
 mod trace;
 mod turns;

@@ -8,6 +8,7 @@ use crate::failure::Failure;
 use dds_base::{Key, Masks, Octets, Selection, USUAL_VALUE};
 use dds_domain::{OurEnd, Participant, Turn};
 use dds_exchange::Carried;
+use dds_live::Live;
 use dds_machine::{Call, Reply};
 use dds_script::{Fault, Side, TranscriptLine, call_of, value, words_of};
 use rtps_adapter::{Encoding, KeyField};
@@ -112,15 +113,15 @@ fn take(reader: u8) -> Call {
 /// Takes all samples of each reader, and prints them.
 pub fn take_all(
     alloc: Global,
-    participant: &mut Participant,
+    live: &mut Live,
     turn: &mut Turn,
     lines: &mut Vec<u8>,
 ) -> Result<(), Failure> {
-    for reader in 1..=participant.readers() {
+    for reader in 1..=live.participant().readers() {
         let Ok(reader) = u8::try_from(reader) else {
             break;
         };
-        let reply = participant.call(take(reader), turn);
+        let reply = live.call(take(reader), turn);
         if let Reply::Samples(_) = reply {
             print_reply(alloc, "", Side::Reader, &reply, lines)?;
         }
@@ -154,7 +155,7 @@ fn asked(alloc: Global, line: &[u8]) -> Result<Option<Call>, AllocError> {
 /// Does what a line asks for, and prints the reply.
 pub fn take_line(
     alloc: Global,
-    participant: &mut Participant,
+    live: &mut Live,
     line: &[u8],
     turn: &mut Turn,
     lines: &mut Vec<u8>,
@@ -164,7 +165,7 @@ pub fn take_line(
         return Ok(());
     };
     let side = Side::of(&call);
-    let reply = participant.call(call, turn);
+    let reply = live.call(call, turn);
     print_reply(alloc, "reply ", side, &reply, lines)?;
     Ok(())
 }

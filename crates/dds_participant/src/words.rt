@@ -9,6 +9,7 @@ use crate::failure::Failure;
 use crate::samples::{Type, TypeKind};
 use dds_base::{Code, EntityId, Guid, GuidPrefix, MAX_VALUE};
 use dds_exchange::can_hold;
+use dds_live::Target;
 use dds_script::decimal;
 use discovery_script::{address, end_of, locator};
 use rtps_adapter::{Encoding, FieldSize, KeyField};
@@ -26,15 +27,6 @@ KIND: datum, keyless, cdr PLACE:SIZE.. or cdr2 PLACE:SIZE..";
 
 /// The greatest domain: above it ports end.
 const MAX_DOMAIN: u64 = 230;
-
-/// An address that is told of us.
-#[derive(Clone, Copy)]
-pub struct Target {
-    /// The four numbers.
-    pub address: [u8; 4],
-    /// Its port; none where those of the domain are meant.
-    pub port: Option<u16>,
-}
 
 /// What is done.
 #[derive(Clone, Copy)]

@@ -1,0 +1,2 @@
+mod PortLaws
+mod Laws
