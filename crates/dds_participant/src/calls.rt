@@ -284,7 +284,30 @@ fn push_matching_call(line: &mut Line, call: &Call) {
     }
 }
 
-/// A call. Each stands in one of the lists, so that none is forgotten.
+/// A call of neither a writer nor a reader alone: of conditions, of WaitSets, or that tells of a match.
+fn push_other_call(line: &mut Line, call: &Call) {
+    match call {
+        Call::CreateReadCondition { .. }
+        | Call::CreateQueryCondition { .. }
+        | Call::CreateGuardCondition
+        | Call::SetTriggerValue { .. }
+        | Call::DeleteCondition { .. }
+        | Call::GetTriggerValue { .. }
+        | Call::SetEnabledStatuses { .. }
+        | Call::GetStatusChanges { .. } => push_condition_call(line, call),
+        Call::CreateWaitSet
+        | Call::DeleteWaitSet { .. }
+        | Call::AttachCondition { .. }
+        | Call::DetachCondition { .. }
+        | Call::GetConditions { .. }
+        | Call::WaitBegin { .. }
+        | Call::WaitLook { .. }
+        | Call::WaitEnd { .. } => push_wait_set_call(line, call),
+        _ => push_matching_call(line, call),
+    }
+}
+
+/// A call.
 pub fn push_call(line: &mut Line, call: &Call) {
     match call {
         Call::Register { .. }
@@ -304,27 +327,6 @@ pub fn push_call(line: &mut Line, call: &Call) {
         | Call::GetSubscriptionMatched { .. }
         | Call::ReadByCondition { .. }
         | Call::TakeByCondition { .. } => push_reader_call(line, call),
-        Call::CreateReadCondition { .. }
-        | Call::CreateQueryCondition { .. }
-        | Call::CreateGuardCondition
-        | Call::SetTriggerValue { .. }
-        | Call::DeleteCondition { .. }
-        | Call::GetTriggerValue { .. }
-        | Call::SetEnabledStatuses { .. }
-        | Call::GetStatusChanges { .. } => push_condition_call(line, call),
-        Call::CreateWaitSet
-        | Call::DeleteWaitSet { .. }
-        | Call::AttachCondition { .. }
-        | Call::DetachCondition { .. }
-        | Call::GetConditions { .. }
-        | Call::WaitBegin { .. }
-        | Call::WaitLook { .. }
-        | Call::WaitEnd { .. } => push_wait_set_call(line, call),
-        Call::MatchReader { .. }
-        | Call::UnmatchReader { .. }
-        | Call::MatchWriter { .. }
-        | Call::UnmatchWriter { .. }
-        | Call::MeetReader { .. }
-        | Call::MeetWriter { .. } => push_matching_call(line, call),
+        _ => push_other_call(line, call),
     }
 }
