@@ -28,6 +28,9 @@ KIND: datum, keyless, cdr PLACE:SIZE.. or cdr2 PLACE:SIZE..";
 /// The greatest domain: above it ports end.
 const MAX_DOMAIN: u64 = 230;
 
+/// How many octets the name of a topic or a type has at most.
+const MAX_NAME: usize = 256;
+
 /// What is done.
 #[derive(Clone, Copy)]
 pub enum Purpose {
@@ -270,7 +273,7 @@ impl Request {
         if self.take(alloc, prefix, group)? {
             return Ok(());
         }
-        Err(wrong(alloc, group.first().copied().unwrap_or("")))
+        Err(wrong_group(alloc, group))
     }
 }
 
@@ -316,6 +319,30 @@ fn wrong(alloc: Global, word: &str) -> Failure {
     match format!(in alloc; "`{word}` is wrong here, or what follows it: {form}\n{USAGE}") {
         Ok(cause) => Failure::Words(cause),
         Err(_) => Failure::Memory,
+    }
+}
+
+/// That a name is too long.
+fn too_long(alloc: Global, what: &str, name: &str) -> Failure {
+    match format!(in alloc;
+        "`{name}` is no name of a {what}: it has more than 256 octets\n{USAGE}"
+    ) {
+        Ok(cause) => Failure::Words(cause),
+        Err(_) => Failure::Memory,
+    }
+}
+
+/// That an option is wrong, or its words: of an endpoint, that the name of its topic or its type is too long.
+fn wrong_group(alloc: Global, group: &[&str]) -> Failure {
+    match group {
+        ["--writer" | "--reader", topic, ..] if topic.len() > MAX_NAME => {
+            too_long(alloc, "topic", topic)
+        }
+        ["--writer" | "--reader", _, type_name, ..] if type_name.len() > MAX_NAME => {
+            too_long(alloc, "type", type_name)
+        }
+        [word, ..] => wrong(alloc, word),
+        [] => wrong(alloc, ""),
     }
 }
 
