@@ -10,3 +10,4 @@ pub mod Rounds
 pub mod Caught
 pub mod CatchingUp
 pub mod Holding
+pub mod Newcomers

@@ -17,14 +17,14 @@ use Rattle.dds_protocol.specs.declared.event.Packet.{Packet}
 use Rattle.dds_machine.specs.Numbered.{has_element, numbered}
 use Rattle.dds_protocol.specs.Opening.{opening_peers, opening_world}
 use Rattle.dds_protocol.specs.Peer.{no_peer}
-use Rattle.dds_protocol.specs.Roster.{roster_of}
+use Rattle.dds_protocol.specs.Roster.{AreGood, ComeFirst, Roster, roster_of}
 use Rattle.dds_protocol.proofs.Bounded.{opened_bounded}
-use Rattle.dds_protocol.proofs.CountsOpened.{opens_used}
+use Rattle.dds_protocol.proofs.CountsOpened.{opens_used_first}
 use Rattle.dds_protocol.proofs.Composed.{parts_at}
-use Rattle.dds_protocol.proofs.Opened.{opening_is, opens_sound}
+use Rattle.dds_protocol.proofs.Opened.{opening_is, opens_sound_first}
 use Rattle.dds_protocol.proofs.OpenedPeers.{opens_known}
 use Rattle.dds_core.specs.Kept.{PeerKept}
-use Rattle.dds_core.specs.Opening.{core_refusal, opening_peer}
+use Rattle.dds_core.specs.Opening.{InRosters, core_refusal, opening_peer}
 use Rattle.dds_core.specs.Listening.{CoreKept, StandsFor as CoreStands, no_listeners}
 use Rattle.dds_core.specs.Standing.{StandsFor as PeerStandsFor}
 use Rattle.dds_protocol.proofs.FiltersKept.{opens_no_filters_at}
@@ -103,6 +103,13 @@ pub refused_so : {X : Type 0} (peers : List PeerConfig) (i : ℕ) (r : Result X 
 refused_so peers i (Ok core) within h = tt
 refused_so peers i (Err code) within h = peer_refuses peers i (i + 1) code refl within h
 
+-- it stands for its opening by each roster, whatever else is so of it there
+pub opening_so : {X : Type 0} (P Q : X → Roster → Type 0) (config : Config) (r : Result X Code)
+    → IfOk r (λ core. InRosters config (λ roster. P core roster × Q core roster))
+    → IfOk r (λ core. InRosters config (λ roster. P core roster))
+opening_so P Q config (Ok core) h = λ all first good. (h all first good).0
+opening_so P Q config (Err code) h = tt
+
 -- where the configuration is taken, want of memory is the one cause
 pub memory_refuses : (peers : List PeerConfig) → check_refusal peers ≡ None → Refuses (check_refusal peers) Memory
 memory_refuses peers none = subst (λ (o : Option Code). Refuses o Memory) (sym none) refl
@@ -123,7 +130,7 @@ opens_none {F} {L} notices capacity becomes config kept none =
     })
 
 -- an element of a list with one more at its end
-at_end : {X : Type 0} (xs : List X) (y : X) (j : ℕ) (x : X) → slice_get (xs ++ y ∷ []) j ≡ Some x
+pub at_end : {X : Type 0} (xs : List X) (y : X) (j : ℕ) (x : X) → slice_get (xs ++ y ∷ []) j ≡ Some x
     → (slice_get xs j ≡ Some x) ⊎ ((j ≡ length xs) × (y ≡ x))
 at_end [] y zero x at = inr (refl, same_Some y x at)
 at_end [] y (suc j) x at = absurd cc
@@ -133,7 +140,9 @@ at_end (z ∷ zs) y (suc j) x at = ⊎_elim (λ e. inl e) (λ e. inr (ap suc e.0
 pub opens_more : {F L : Type 0} (notices : L → List Notice) (capacity : L → ℕ) (becomes : L → Notice → L → Type 0)
     (config : Config) (i n : ℕ)
     (old new : List (CoreKept F L)) (core : CoreKept F L) → n ≡ i + 1
-    → OpensFirst notices capacity becomes config i old → CoreStands notices capacity becomes (no_listeners (opening_peer config n).part) core (roster_of config) (opening_peer config n)
+    → OpensFirst notices capacity becomes config i old
+    → InRosters config (λ roster. CoreStands notices capacity becomes (no_listeners (opening_peer config n).part) core
+    roster (opening_peer config n))
     → core.filtered.filters ≡ []
     → check_refusal config.peers ≡ None → new ≡ old ++ core ∷ [] → OpensFirst notices capacity becomes config (i + 1) new
 opens_more {F} {L} notices capacity becomes config i n old new core is so stands none taken items =
@@ -144,16 +153,16 @@ opens_more {F} {L} notices capacity becomes config i n old new core is so stands
     → (slice_get old j ≡ Some k) ⊎ ((j ≡ length old) × (core ≡ k)) =
     λ j k at. at_end old core j k (subst (λ (ks : List (CoreKept F L)). slice_get ks j ≡ Some k) items at) in
     let each : (j : ℕ) (k : CoreKept F L) → slice_get new j ≡ Some k
-    → CoreStands notices capacity becomes (no_listeners (opening_peer config (j + 1)).part) k (roster_of config)
-    (opening_peer config (j + 1)) = λ j k at.
+    → InRosters config (λ roster. CoreStands notices capacity becomes (no_listeners (opening_peer config (j + 1)).part) k
+    roster (opening_peer config (j + 1))) = λ j k at.
     ⊎_elim (λ o. so.each j k o)
     (λ last.
     let j_is = last.0 in
     let same : n ≡ j + 1 = omega (arith, is, j_is, counted) in
-    subst (λ (m : ℕ). CoreStands notices capacity becomes (no_listeners (opening_peer config m).part) k (roster_of config)
-    (opening_peer config m)) same
-    (subst (λ (x : CoreKept F L). CoreStands notices capacity becomes (no_listeners (opening_peer config n).part) x (roster_of config)
-    (opening_peer config n)) last.1 stands))
+    subst (λ (m : ℕ). InRosters config (λ roster. CoreStands notices capacity becomes
+    (no_listeners (opening_peer config m).part) k roster (opening_peer config m))) same
+    (subst (λ (x : CoreKept F L). InRosters config (λ roster. CoreStands notices capacity becomes
+    (no_listeners (opening_peer config n).part) x roster (opening_peer config n))) last.1 stands))
     (before j k at) in
     record {
       counted = omega (arith, counted, total, length_is);
@@ -203,12 +212,14 @@ pub no_filters_at : {F L : Type 0} (notices : L → List Notice) (capacity : L �
 no_filters_at notices capacity becomes config count held all zero = refl
 no_filters_at notices capacity becomes config count held all (suc i) = none_at held.cores all.none i
 
+-- by the roster of each list in which the peers of the configuration come first
 pub opened : {F L : Type 0} (notices : L → List Notice) (capacity : L → ℕ) (becomes : L → Notice → L → Type 0)
     (config : Config) (held : Held F L)
     → OpensFirst notices capacity becomes config (length config.peers) held.cores
-    → held.sent ≡ [] → held.unsent ≡ 0 → StandsFor (kept_of notices capacity becomes (none_given (opening config)) held)
-    (roster_of config) (opening_world config)
-opened {F} {L} notices capacity becomes config held all none quiet =
+    → held.sent ≡ [] → held.unsent ≡ 0
+    → InRosters config (λ roster. StandsFor (kept_of notices capacity becomes (none_given (opening config)) held) roster
+    (opening_world config))
+opened {F} {L} notices capacity becomes config held all none quiet whole first good =
     let f : CoreKept F L → PeerKept = λ c. c.filtered.peer in
     let g : CoreKept F L → Slotted L = λ c. c.listeners in
     let parts : (number : ℕ) → part_at (opening config) number ≡ (opening_peer config number).part = λ number.
@@ -218,10 +229,12 @@ opened {F} {L} notices capacity becomes config held all none quiet =
       each = λ i k at.
           let next : i + 1 ≡ suc i = omega arith in
           let own = seen_of f held.cores i k at in
-          subst (λ (x : PeerKept). PeerStandsFor x (roster_of config) (opening_peer config (suc i))) own.2
-          (subst (λ (n : ℕ). PeerStandsFor own.0.filtered.peer (roster_of config) (opening_peer config n)) next
-          (all.each i own.0 own.1).stands.stands);
-      known = λ i k at. opens_known config (roster_of config) i (get_or (opening_peers config.peers 1 config.peers) i no_peer).number;
+          subst (λ (x : PeerKept). PeerStandsFor x (roster_of whole) (opening_peer config (suc i))) own.2
+          (subst (λ (n : ℕ). PeerStandsFor own.0.filtered.peer (roster_of whole) (opening_peer config n)) next
+          (all.each i own.0 own.1 whole first good).stands.stands);
+      known = λ i k at.
+          opens_known config (roster_of whole) i
+          (get_or (opening_peers config.peers 1 config.peers) i no_peer).number;
       filters = λ i. opens_no_filters_at config i ∙ sym (none_counted held.cores all.none i);
       listened = peers_count config.peers 1 config.peers ∙ (sym all.counted ∙ sym (length-map held.cores g));
       listeners = λ i k at.
@@ -233,13 +246,13 @@ opened {F} {L} notices capacity becomes config held all none quiet =
           (opening_peer config (suc i)).part.dds.listeners) (sym (parts (suc i)))
           (subst (λ (n : ℕ). SlotsStandFor notices capacity becomes (no_listeners (opening_peer config n).part)
           own.0.listeners (opening_peer config n).part.dds.listeners) next
-          (all.each i own.0 own.1).listeners));
+          (all.each i own.0 own.1 whole first good).listeners));
       sent = sym none;
-      sound = opens_sound config;
+      sound = opens_sound_first config whole first;
       messages =
           λ packet c. let nowhere = subst (λ (ps : List Packet). Contains ps packet) none c in
           absurd (omega (arith, nowhere.1));
       few = omega (arith, quiet);
-      used = opens_used config;
+      used = opens_used_first config whole first;
       bounded = opened_bounded config;
     }

@@ -18,9 +18,9 @@ use Rattle.dds_machine.specs.Machine.{AllTests, Step}
 use Rattle.dds_protocol.specs.Meetings.{MeetsByRoster, MeetsInNetwork}
 use Rattle.dds_protocol.specs.Rules.{RuledStep}
 use Rattle.dds_protocol.specs.World.{WorldState, machine_of}
-use Rattle.dds_protocol.specs.Roster.{Roster, roster_of}
+use Rattle.dds_protocol.specs.Roster.{Roster}
 use Rattle.dds_core.specs.Kept.{PeerKept}
-use Rattle.dds_core.specs.Opening.{opening_peer}
+use Rattle.dds_core.specs.Opening.{InRosters, opening_peer}
 use Rattle.dds_ends.specs.Sending.{AreMessages}
 use Rattle.dds_core.specs.Sending.{SendsNothing}
 use Rattle.dds_core.specs.Listening.{CoreKept, StandsFor as CoreStands, no_listeners}
@@ -84,7 +84,8 @@ pub record OpensFirst {F L : Type 0} (notices : L → List Notice) (capacity : L
     (config : Config) (count : ℕ) (kept : List (CoreKept F L)) : Type 0 where
   pub counted : length kept ≡ count
   pub each : (i : ℕ) (k : CoreKept F L) → slice_get kept i ≡ Some k
-      → CoreStands notices capacity becomes (no_listeners (opening_peer config (i + 1)).part) k (roster_of config) (opening_peer config (i + 1))
+      → InRosters config (λ roster. CoreStands notices capacity becomes
+      (no_listeners (opening_peer config (i + 1)).part) k roster (opening_peer config (i + 1)))
   pub none : (i : ℕ) (k : CoreKept F L) → slice_get kept i ≡ Some k → k.filtered.filters ≡ []
   pub taken : 1 ≤ count → check_refusal config.peers ≡ None
 

@@ -5,3 +5,4 @@ pub mod Round
 pub mod Repairing
 pub mod Holding
 pub mod HeldSteps
+pub mod Coming

@@ -31,6 +31,7 @@
 //! ```
 #![tactic(auto)]
 
+mod coming;
 mod round;
 mod world;
 

@@ -17,7 +17,7 @@ ghost use Rattle.dds_machine.specs.Opening.{opening};
 ghost use Rattle.dds_machine.specs.Runs.{Runs, Steps};
 ghost use Rattle.dds_machine.specs.Numbered.{numbered};
 ghost use Rattle.dds_protocol.specs.Opening.{opening_world};
-ghost use Rattle.dds_core.specs.Opening.{opening_peer};
+ghost use Rattle.dds_core.specs.Opening.{InRosters, opening_peer};
 ghost use Rattle.dds_core.specs.Listening.{StandsFor as CoreStandsFor, no_listeners};
 ghost use Rattle.dds_world.specs.WorldStanding.{KeepsRules, MachineStands, MeetsByConfig, RunsByRules, StandsFor, traffic};
 ghost use Rattle.dds_world.specs.Posting.{Posts};
@@ -92,9 +92,9 @@ fn open_peer<F: Filter, L: Listener>(
     requires within { index < length config.now.peers }
     requires few { length config.now.peers ≤ 16 }
     ensures opening { IfOk result
-        (λ core. CoreStandsFor L.notices L.capacity L.becomes
-        (no_listeners (opening_peer config.now (index + 1)).part) core (roster_of config.now)
-        (opening_peer config.now (index + 1))) }
+        (λ core. InRosters config.now (λ roster. CoreStandsFor L.notices L.capacity L.becomes
+        (no_listeners (opening_peer config.now (index + 1)).part) core roster
+        (opening_peer config.now (index + 1)))) }
     ensures none { IfOk result (λ core. core.filtered.filters ≡ []) }
     ensures taken { IfOk result (λ core. check_refusal config.now.peers ≡ None) }
     ensures refused { IfErr result (Refuses (check_refusal config.now.peers)) }
@@ -149,6 +149,13 @@ impl<F: Filter, L: Listener> World<F, L> {
         ensures rules { IfOk result
             (λ world. StandsFor (kept_of L.notices L.capacity L.becomes (none_given (opening config.now)) world)
             (roster_of config.now) (opening_world config.now)) }
+        // Both are so by the roster of each list in which the peers of the configuration come first.
+        ensures roster { IfOk result
+            (λ world. InRosters config.now (λ roster.
+            MachineStands (kept_of L.notices L.capacity L.becomes (none_given (opening config.now)) world)
+            roster (opening config.now)
+            × StandsFor (kept_of L.notices L.capacity L.becomes (none_given (opening config.now)) world)
+            roster (opening_world config.now))) }
         // No peer has a filter.
         ensures none { IfOk result
             (λ world. (peer : ℕ) → numbered (filters_of world) peer [] ≡ []) }
