@@ -9,7 +9,6 @@ use std::alloc::{AllocError, Global};
 /// What follows a word that names no peer; none of another word.
 fn command_form(name: &str) -> Option<Form> {
     match name {
-        "peer" => Some(Form::of(&[])),
         "deliver" => Some(Form::of(&[Operand::Peer, Operand::Packet])),
         "packet" => Some(Form::of(&[Operand::Packet])),
         "round" => Some(Form::of(&[Operand::WriterOfPeer, Operand::ReaderOfPeer])),
@@ -21,6 +20,7 @@ fn command_cause(alloc: Global, name: &str, words: &[&str]) -> Result<String, Al
     match command_form(name) {
         Some(form) => form_cause(alloc, name, form, words),
         None => match name {
+            "peer" => String::from_str(alloc, "nothing but `later` follows `peer`"),
             "writer" => writer_options_cause(alloc, words),
             "reader" => reader_options_cause(alloc, words),
             _ => unknown_cause(alloc, "P", name),

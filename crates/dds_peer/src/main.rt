@@ -7,6 +7,8 @@
 
 mod cause;
 mod entry;
+mod meeting;
+mod peers;
 mod script;
 mod setup;
 mod simulation;

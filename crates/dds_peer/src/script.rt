@@ -68,10 +68,18 @@ fn packet(words: &[&str]) -> Option<Line> {
     Some(Line::Packet(decimal(number)?))
 }
 
+fn peer(words: &[&str]) -> Option<Line> {
+    match words {
+        [] => Some(Line::Setup(SetupPart::Peer)),
+        ["later"] => Some(Line::Setup(SetupPart::Later)),
+        _ => None,
+    }
+}
+
 /// What a line says whose first word is none of a peer's number.
 fn command(first: &str, words: &[&str]) -> Option<Line> {
     match first {
-        "peer" if words.is_empty() => Some(Line::Setup(SetupPart::Peer)),
+        "peer" => peer(words),
         "writer" => Some(Line::Setup(SetupPart::Writer(writer_options(words)?))),
         "reader" => Some(Line::Setup(SetupPart::Reader(reader_options(words)?))),
         "deliver" => delivery(words),

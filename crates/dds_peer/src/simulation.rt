@@ -1,9 +1,11 @@
 //! A script, run over a simulated network.
 
+use crate::meeting::introduced;
+use crate::peers::{Peers, fault_of};
 use crate::script::Line;
 use crate::setup::{NumberedSetup, SetupPart};
 use crate::stream::Script;
-use dds_base::{Code, Config, Endpoint, Octets};
+use dds_base::{Code, ConfigFault, Endpoint, Octets};
 use dds_machine::WorldEvent;
 use dds_notices::Recorder;
 use dds_script::{
@@ -16,13 +18,20 @@ use std::io::{Read, Write};
 /// A network whose filters and listeners are those that lines ask for.
 type World = WorldOf<Prefix, Recorder>;
 
-/// The network of a script: its set-up, and the world that this gives once another line follows.
+/// A network that is open, and the peers that its set-up named.
+#[derive(Drop)]
+struct Opened {
+    world: World,
+    peers: Peers,
+}
+
+/// The network of a script: its set-up, and what this gives once another line follows.
 #[derive(Drop)]
 struct Network {
     alloc: Global,
     echo: Echo,
     setup: NumberedSetup,
-    world: Option<World>,
+    opened: Option<Opened>,
 }
 
 /// Whether each command is printed before what it answers.
@@ -32,24 +41,46 @@ pub enum Echo {
     Commands,
 }
 
-/// Why the set-up of this configuration is refused, at this line.
-fn refusal(code: Code, config: &Config, line: u64) -> Fault {
+/// Why a set-up is refused at this line, whose fault this is if it has one.
+fn refusal(code: Code, fault: Option<ConfigFault>, line: u64) -> Fault {
     match code {
         Code::Memory => Fault::Memory,
         code => Fault::Refused {
             line,
-            refusal: SetupRefusal {
-                code,
-                fault: config.fault(),
-            },
+            refusal: SetupRefusal { code, fault },
         },
     }
 }
 
+/// Opens the network of these peers, to which those that come later come at once, at this line.
+fn world_of(alloc: Global, peers: &Peers, line: u64) -> Result<World, Fault> {
+    let opened = World::open(alloc, &peers.opening);
+    let mut world = opened.map_err(|code| refusal(code, peers.opening.fault(), line))?;
+    let known = peers.opening.peers.as_slice().len();
+    for (index, peer) in peers.later.as_slice().iter().enumerate() {
+        if let Err(code) = world.come(peer) {
+            return Err(refusal(code, fault_of(peer, known + index + 1), line));
+        }
+    }
+    Ok(world)
+}
+
 /// Opens the network of a set-up, at this line.
-fn opened(alloc: Global, setup: &mut NumberedSetup, line: u64) -> Result<World, Fault> {
-    let config = setup.config()?;
-    World::open(alloc, &config).map_err(|code| refusal(code, &config, line))
+fn open_network(alloc: Global, setup: &mut NumberedSetup, line: u64) -> Result<Opened, Fault> {
+    let peers = setup.peers()?;
+    let world = world_of(alloc, &peers, line)?;
+    Ok(Opened { world, peers })
+}
+
+/// What happens to the network of these peers at a line.
+fn event_of(peers: &Peers, event: WorldEvent) -> WorldEvent {
+    match event {
+        WorldEvent::Call { peer, call } => WorldEvent::Call {
+            peer,
+            call: introduced(peers, peer, call),
+        },
+        event => event,
+    }
 }
 
 /// Whose matches an event looks at, if it is such a look.
@@ -118,10 +149,11 @@ fn push_packet(text: &mut TranscriptLine, world: &World, number: u64) {
 }
 
 /// Runs a line that is no part of the set-up, and gives the line of the transcript, or for a round its lines.
-fn transcript_of(alloc: Global, world: &mut World, line: Line) -> Result<String, AllocError> {
+fn transcript_of(alloc: Global, opened: &mut Opened, line: Line) -> Result<String, AllocError> {
+    let Opened { world, peers } = opened;
     let mut text = TranscriptLine::new(alloc);
     match line {
-        Line::Event(event) => push_event(&mut text, world, event),
+        Line::Event(event) => push_event(&mut text, world, event_of(peers, event)),
         Line::Filter { peer, octets } => push_filter(&mut text, world, peer, octets),
         Line::Listener { peer, asked } => {
             text.push_listener_set(&set_listener(alloc, world, peer, asked));
@@ -149,28 +181,27 @@ impl Network {
             alloc,
             echo,
             setup: NumberedSetup::new(alloc),
-            world: None,
+            opened: None,
         }
     }
 
-    /// Takes up a line of the set-up, which may not follow another line, nor name a writer or a reader before any peer.
+    /// Takes up a line of the set-up, which may not follow another line, nor name a writer or a reader before any peer,
+    /// nor a peer that the opening knows behind one that comes later.
     fn set_up(&mut self, part: SetupPart, line: u64) -> Result<(), Fault> {
-        if self.world.is_some() {
+        if self.opened.is_some() {
             let cause = "the set-up ended with the first command";
             return Err(Fault::not_a_command(self.alloc, line, cause));
         }
-        if self.setup.take(part)? {
-            Ok(())
-        } else {
-            let cause = "a writer or a reader follows a peer";
-            Err(Fault::not_a_command(self.alloc, line, cause))
+        match self.setup.take(part)? {
+            None => Ok(()),
+            Some(cause) => Err(Fault::not_a_command(self.alloc, line, cause)),
         }
     }
 
     /// Opens the network at this line, if it was not before.
     fn open(&mut self, line: u64) -> Result<(), Fault> {
-        if self.world.is_none() {
-            self.world = Some(opened(self.alloc, &mut self.setup, line)?);
+        if self.opened.is_none() {
+            self.opened = Some(open_network(self.alloc, &mut self.setup, line)?);
         }
         Ok(())
     }
@@ -185,8 +216,8 @@ impl Network {
 
     /// Runs a line on the open network, and prints what it answers.
     fn answer(&mut self, line: Line, output: &mut impl Write) -> Result<(), Fault> {
-        match &mut self.world {
-            Some(world) => print(output, transcript_of(self.alloc, world, line)?.as_str()),
+        match &mut self.opened {
+            Some(opened) => print(output, transcript_of(self.alloc, opened, line)?.as_str()),
             None => Ok(()),
         }
     }
