@@ -10,3 +10,5 @@ pub mod Keeping
 pub mod Reading
 pub mod Arriving
 pub mod Knowing
+pub mod Missing
+pub mod Again

@@ -6,3 +6,5 @@ pub mod Hearing
 pub mod Assembled
 pub mod Bounded
 pub mod Readable
+pub mod NackFrag
+pub mod Asking

@@ -6,8 +6,10 @@ ghost use Rattle.std.specs.Prelude.{◌≡◌, ◌≤◌, ◌<◌, ◌+◌, ◌-
 ghost use Rattle.std.specs.List.{list_all};
 ghost use Rattle.rtps_fragments.specs.Keeping.{overlaid, nothing_of, is_number, opened, placed, with_fragments, is_whole, is_alike};
 ghost use Rattle.rtps_fragments.specs.Telling.{message_of};
+ghost use Rattle.rtps_fragments.specs.Asking.{is_again};
 
 use crate::data_frag::DataFrag;
+use crate::names::MAX_CARRIED;
 use crate::telling::{InForce, Payload, put_message};
 use dds_base::{Code, Octets};
 use std::alloc::Global;
@@ -109,6 +111,23 @@ impl Assembly {
         ensures { result ≡ is_alike self.now fragment.now }
     {
         self.fragment_size == fragment.fragment_size && self.sample_size == fragment.sample_size
+    }
+
+    /// Of each fragment whether it came.
+    pub fn came(&self) -> &[bool]
+        ensures came { result.now ≡ self.now.came }
+        ensures few { length result.now ≤ MAX_CARRIED }
+    {
+        self.came.as_slice()
+    }
+
+    /// Whether a DATA_FRAG has the first fragment, and that came before.
+    pub fn is_again(&self, fragment: &DataFrag) -> bool
+        ensures { result ≡ is_again self.now fragment.now }
+    {
+        fragment.fragment_starting_num == 1
+            && self.is_alike(fragment)
+            && matches!(self.came.get(0), Some(true))
     }
 
     /// Whether these fragments are all that was missing.

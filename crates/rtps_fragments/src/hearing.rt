@@ -2,12 +2,16 @@
 //!
 //! RTPS 2.5, 8.3.4 (the message receiver) and 8.3.8.3 (DataFrag).
 
-ghost use Rattle.std.specs.Prelude.{◌≡◌, ◌<◌, ◌++◌, false, length, is_some, IfOk, IfErr, OnOk, OnErr};
-ghost use Rattle.std.specs.Option.{option_to_list};
+ghost use Rattle.std.specs.Prelude.{◌≡◌, ◌<◌, ◌++◌, false, length, ◌≤◌, find, is_some, IfOk, IfErr, IfSome, OnOk, OnErr};
+ghost use Rattle.std.specs.Option.{option_map, option_to_list};
 ghost use Rattle.std.specs.List.{position};
 ghost use Rattle.rtps_fragments.specs.Hearing.{HearsFront, HearsMessage, HearsOne, HearsAll, HearsSome, IsWanted, is_row, knowing, forgetting, rows_of, told, IsKnown};
+ghost use Rattle.rtps_fragments.specs.Asking.{AreAgain, BeginsAgain, IsAgainBy, came_of, kept_of_change};
 
+use crate::assembly::Assembly;
 use crate::data_frag::{DataFrag, read_fragment};
+use crate::nack_frag::ChangeId;
+use crate::names::MAX_CARRIED;
 use crate::row::WriterRow;
 use crate::telling::InForce;
 use dds_base::{Code, EntityId, Guid, GuidPrefix, Octets};
@@ -40,6 +44,26 @@ fn place_of(rows: &[WriterRow], prefix: &GuidPrefix, entity: &EntityId) -> Optio
     ensures { result ≡ position (is_row prefix.now entity.now) rows.now }
 {
     rows.iter().position(|row| row.is_of(prefix, entity))
+}
+
+/// Appends a change, if it is one.
+fn put_any(changes: &mut Vec<ChangeId>, change: Option<ChangeId>) -> Result<(), Code>
+    ensures ok { OnOk result (changes.new.items ≡ changes.old.items ++ option_to_list change) }
+    ensures memory { IfErr result (λ e. e ≡ Code.Memory) }
+{
+    if let Some(change) = change {
+        changes.push(change)?;
+    }
+    Ok(())
+}
+
+/// The row of a writer, if it is known.
+fn row_of<'a>(rows: &'a [WriterRow], writer: &Guid) -> Option<&'a WriterRow>
+    ensures { option_map (λ r. r.now) result
+        ≡ find (is_row writer.now.prefix writer.now.entity) rows.now }
+{
+    rows.iter()
+        .find(|row| row.is_of(&writer.prefix, &writer.entity))
 }
 
 impl Fragments {
@@ -89,6 +113,87 @@ impl Fragments {
     {
         if let Some(place) = place_of(self.rows.as_slice(), &writer.prefix, &writer.entity) {
             let _ = self.rows.remove(place);
+        }
+    }
+
+    /// What is kept of a change, if something is.
+    fn kept(&self, writer: &Guid, writer_sn: u64) -> Option<&Assembly>
+        ensures { option_map (λ a. a.now) result ≡ kept_of_change self.now writer.now writer_sn }
+    {
+        match row_of(self.rows.as_slice(), writer) {
+            Some(row) => row.number(writer_sn),
+            None => None,
+        }
+    }
+
+    /// Of each fragment of a change whether it came, where some came and not all.
+    pub fn came(&self, change: &ChangeId) -> Option<&[bool]>
+        // It is so as it is kept.
+        ensures came { option_map (λ came. came.now) result
+            ≡ came_of self.now change.now.writer change.now.writer_sn }
+        // A payload has so many at most.
+        ensures few { IfSome result (λ came. length came.now ≤ MAX_CARRIED) }
+    {
+        match self.kept(&change.writer, change.writer_sn) {
+            Some(assembly) => Some(assembly.came()),
+            None => None,
+        }
+    }
+
+    /// The change that a submessage begins again, if it does.
+    fn again_by(&self, source: GuidPrefix, frame: &Frame) -> Option<ChangeId>
+        ensures { IsAgainBy self.now source frame.now.id frame.now.flags frame.now.body.now result }
+    {
+        let fragment = read_fragment(frame)?;
+        let writer = Guid {
+            prefix: source,
+            entity: fragment.writer_id,
+        };
+        match self.kept(&writer, fragment.writer_sn) {
+            Some(assembly) if assembly.is_again(&fragment) => Some(ChangeId {
+                writer,
+                writer_sn: fragment.writer_sn,
+            }),
+            _ => None,
+        }
+    }
+
+    /// The changes that the submessages of a message begin again.
+    fn again_in(
+        &self,
+        alloc: Global,
+        source: GuidPrefix,
+        body: &[u8],
+    ) -> Result<Vec<ChangeId>, Code>
+        ensures ok { IfOk result (λ again. AreAgain self.now source body.now again.items) }
+        ensures memory { IfErr result (λ e. e ≡ Code.Memory) }
+    {
+        let mut again = Vec::new(alloc);
+        let mut left = body;
+        while let Some((frame, rest)) = next_frame(left) {
+            put_any(&mut again, self.again_by(source, &frame))?;
+            left = rest;
+        }
+        Ok(again)
+    }
+
+    /// The changes that a datagram begins again, in its order: it has their first fragments, which came before, and
+    /// not all came. A product that sends the first alone waits until the others are asked for.
+    ///
+    /// # Errors
+    ///
+    /// `Memory` where no memory was found for the list.
+    ///
+    /// RTPS 2.5, 8.3.8.3 and 8.3.8.10.
+    pub fn again(&self, alloc: Global, bytes: &[u8]) -> Result<Vec<ChangeId>, Code>
+        // They are those whose first fragment is kept as the datagram comes.
+        ensures again { IfOk result (λ again. BeginsAgain bytes.now self.now again.items) }
+        // The only refusal is for want of memory.
+        ensures memory { IfErr result (λ e. e ≡ Code.Memory) }
+    {
+        match begin_message(bytes) {
+            Some((source, body)) => self.again_in(alloc, source, body),
+            None => Ok(Vec::new(alloc)),
         }
     }
 

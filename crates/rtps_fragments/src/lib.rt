@@ -2,10 +2,11 @@
 //!
 //! A product may send a value in fragments. `Fragments` is given each datagram of the network, keeps the fragments of
 //! known writers, and answers a message with one DATA once all fragments of a payload have come. The datagram stays as
-//! it is, to be handed on too. Nothing is ever written in fragments, and none is asked for: what stays incomplete is a
-//! number that is missing. Not here: sockets, and what a peer does with a message. The payload is only cut and put
-//! together: what it means is no matter of this crate. `specs/` has the grammar (`DataFrag`), what is kept (`Keeping`),
-//! what is told (`Telling`, `Hearing`), and what the laws say.
+//! it is, to be handed on too. Nothing is ever written in fragments. `write_nack_frag` makes the message that asks for
+//! those that are missing, and `Fragments::again` says when a writer may wait for it. Not here: sockets, and what a peer
+//! does with a message. The payload is only cut and put together: what it means is no matter of this crate. `specs/` has
+//! the grammar (`DataFrag`, `NackFrag`), what is kept (`Keeping`), what is told (`Telling`, `Hearing`), what is asked for
+//! (`Asking`), and what the laws say.
 //!
 //! A datagram of a writer that is known, and what comes of it:
 //!
@@ -27,8 +28,10 @@ mod field;
 mod hearing;
 mod kept;
 pub mod laws;
+mod nack_frag;
 mod names;
 mod row;
 mod telling;
 
 pub use hearing::Fragments;
+pub use nack_frag::{ChangeId, write_nack_frag};

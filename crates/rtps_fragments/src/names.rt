@@ -8,6 +8,9 @@ pub const ID_DATA: u8 = 0x15;
 /// DATA_FRAG, as its id says.
 pub const ID_DATA_FRAG: u8 = 0x16;
 
+/// NACK_FRAG, as its id says.
+pub const ID_NACK_FRAG: u8 = 0x12;
+
 /// INFO_DST, as its id says.
 pub const ID_INFO_DST: u8 = 0x0e;
 
@@ -43,3 +46,6 @@ pub const MAX_CARRIED: usize = 65_435;
 
 /// So many numbers of a writer are kept at a time.
 pub const MAX_NUMBERS: usize = 16;
+
+/// So many fragments one NACK_FRAG asks for at most.
+pub const MAX_ASKED: usize = 256;

@@ -2,7 +2,9 @@
 //!
 //! RTPS 2.5, 8.2 (GUID_t) and 8.3.8.3 (DataFrag).
 
-ghost use Rattle.std.specs.Prelude.{◌≡◌, [], IfOk, IfErr, OnErr};
+ghost use Rattle.std.specs.Prelude.{◌≡◌, [], find, IfOk, IfErr, OnErr};
+ghost use Rattle.std.specs.Option.{option_map};
+ghost use Rattle.rtps_fragments.specs.Keeping.{is_number};
 ghost use Rattle.rtps_fragments.specs.Hearing.{is_row, RowAnswers};
 
 use crate::assembly::Assembly;
@@ -44,6 +46,15 @@ impl WriterRow {
         ensures { result ≡ is_row prefix.now entity.now self.now }
     {
         self.writer.prefix == *prefix && self.writer.entity == *entity
+    }
+
+    /// What is kept of a number, if something is.
+    pub fn number(&self, writer_sn: u64) -> Option<&Assembly>
+        ensures { option_map (λ a. a.now) result ≡ find (is_number writer_sn) self.now.kept }
+    {
+        self.kept
+            .iter()
+            .find(|assembly| assembly.is_number(writer_sn))
     }
 
     /// What is kept becomes this by a DATA_FRAG, and the message of a payload that it made whole.

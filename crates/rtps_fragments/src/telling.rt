@@ -9,6 +9,8 @@ ghost use Rattle.std.specs.Int.{w16, w32};
 ghost use Rattle.rtps_wire.specs.Fields.{sn_text};
 ghost use Rattle.rtps_wire.specs.Frames.{frame_text};
 ghost use Rattle.rtps_wire.specs.Data.{data_head};
+ghost use Rattle.rtps_wire.specs.Messages.{header_text};
+ghost use Rattle.rtps_wire.specs.Names.{minor_version, vendor_unknown};
 ghost use Rattle.rtps_fragments.specs.Telling.{at_first, in_force_after, info_ts_text, front_text, message_with};
 
 use crate::data_frag::DataFrag;
@@ -79,7 +81,7 @@ fn put_u16(out: &mut Vec<u8>, order: Endianness, value: u16) -> Result<(), Code>
 }
 
 /// Appends a number of four octets.
-fn put_u32(out: &mut Vec<u8>, order: Endianness, value: u32) -> Result<(), Code>
+pub fn put_u32(out: &mut Vec<u8>, order: Endianness, value: u32) -> Result<(), Code>
     ensures ok { OnOk result (out.new.items ≡ out.old.items ++ number order w32 value) }
     ensures memory { IfErr result (λ e. e ≡ Code.Memory) }
 {
@@ -92,7 +94,7 @@ fn put_u32(out: &mut Vec<u8>, order: Endianness, value: u32) -> Result<(), Code>
 }
 
 /// Appends a sequence number, or a moment: its high half, then its low half.
-fn put_u64(out: &mut Vec<u8>, order: Endianness, value: u64) -> Result<(), Code>
+pub fn put_u64(out: &mut Vec<u8>, order: Endianness, value: u64) -> Result<(), Code>
     ensures ok { OnOk result (out.new.items ≡ out.old.items ++ sn_text order value) }
     ensures memory { IfErr result (λ e. e ≡ Code.Memory) }
 {
@@ -142,13 +144,23 @@ fn put_info_ts(out: &mut Vec<u8>, timestamp: Option<u64>) -> Result<(), Code>
     }
 }
 
+/// Appends the header of a message.
+pub fn put_header(out: &mut Vec<u8>, source: &GuidPrefix) -> Result<(), Code>
+    ensures ok { OnOk result (out.new.items
+        ≡ out.old.items ++ header_text minor_version vendor_unknown source.now) }
+    ensures memory { IfErr result (λ e. e ≡ Code.Memory) }
+{
+    out.extend_from_slice(&[b'R', b'T', b'P', b'S', 2, 5, 0, 0])?;
+    out.extend_from_slice(source.as_slice())?;
+    Ok(())
+}
+
 /// Appends the header of a message, an INFO_DST and an INFO_TS.
 pub fn put_front(out: &mut Vec<u8>, in_force: &InForce) -> Result<(), Code>
     ensures ok { OnOk result (out.new.items ≡ out.old.items ++ front_text in_force.now) }
     ensures memory { IfErr result (λ e. e ≡ Code.Memory) }
 {
-    out.extend_from_slice(&[b'R', b'T', b'P', b'S', 2, 5, 0, 0])?;
-    out.extend_from_slice(in_force.source.as_slice())?;
+    put_header(out, &in_force.source)?;
     put_submessage_header(out, ID_INFO_DST, FLAG_ENDIANNESS, 12)?;
     out.extend_from_slice(in_force.destination.as_slice())?;
     put_info_ts(out, in_force.timestamp)
