@@ -43,6 +43,7 @@ alike_as {inside} {reader = reader} {store} view same how qos holds =
       seen = refl;
       matches = refl;
       here = refl;
+      misfits = refl;
       holds = holds;
     })
 

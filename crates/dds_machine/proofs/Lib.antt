@@ -5,3 +5,4 @@ mod WorkedNotices
 mod WorkedConditions
 mod WorkedMatching
 mod WorkedMeeting
+mod WorkedFitting
