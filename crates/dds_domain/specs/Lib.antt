@@ -7,3 +7,4 @@ pub mod Heard
 pub mod Sharings
 pub mod Participants
 pub mod Matched
+pub mod Asking

@@ -20,6 +20,7 @@
 
 mod asking;
 mod early;
+mod fragmented;
 mod heard;
 mod matched;
 mod opening;
