@@ -47,7 +47,6 @@ use Rattle.dds_base.specs.declared.endpoint.Endpoint.{Endpoint}
 use Rattle.dds_ends.proofs.Rows.{writers_of}
 use Rattle.dds_ends.specs.declared.match_counts.MatchCounts.{MatchCounts}
 use Rattle.dds_ends.specs.MatchCounts.{CountsFor}
-use Rattle.dds_ends.specs.Misfits.{IsTold, MisfitsKept}
 use Rattle.dds_ends.specs.Kept.{ReaderKept}
 use Rattle.dds_core.specs.Kept.{PeerKept}
 use Rattle.dds_ends.specs.Looking.{TakesOnly, access_reply}
@@ -160,7 +159,6 @@ one_entered entry quiet k k' proxies r tracked samples same s stands = record {
       ∙ ap (λ (x : Proxies). stood_as (how_at x n)) (sym same.reader);
   counts = subst (λ (m : MatchCounts). CountsFor m r.matches) (sym same.matches) s.counts;
   here_is = same.here ∙ s.here_is;
-  misfits = subst (λ (m : MisfitsKept). IsTold m r.requested r.misfits) (sym same.misfits) s.misfits;
 }
 
 -- the part after an access
@@ -207,11 +205,11 @@ not_entered tests c kept i k k' roster peer code s at same is =
 kept_same : (k k' : ReaderKept) → TakesOnly k k' → k'.store.cache ≡ k.store.cache → k' ≡ k
 kept_same k k' same cache =
     reader_as k'.entity k.entity k'.writers k.writers k'.reader k.reader k'.store k.store k'.seen k.seen
-    k'.matches k.matches k'.here k.here k'.misfits k.misfits same.entity
+    k'.matches k.matches k'.here k.here same.entity
     same.writers same.reader
     (store_as k'.store.lost k.store.lost k'.store.passed k.store.passed k'.store.turned k.store.turned
     k'.store.leases k.store.leases k'.store.cache k.store.cache same.lost same.passed same.turned same.leases cache)
-    same.seen same.matches same.here same.misfits
+    same.seen same.matches same.here
   where
     store_as : (i j : ℕ) (p q t u : Option ℕ) (l m : Leased) (c d : Stored) → i ≡ j → p ≡ q → t ≡ u → l ≡ m → c ≡ d
         → ◌≡◌ {A = StoreKept} (record { lost = i; passed = p; turned = t; leases = l; cache = c })
@@ -219,12 +217,11 @@ kept_same k k' same cache =
     store_as i j p q t u l m c d e f g h k = cc
 
     reader_as : (a b : EntityId) (x y : List WriterName) (p q : Proxies) (s t : StoreKept) (i j : Seen)
-        (m n : MatchCounts) (c d : ℕ) (f g : MisfitsKept) → a ≡ b → x ≡ y → p ≡ q → s ≡ t → i ≡ j → m ≡ n → c ≡ d
-        → f ≡ g
+        (m n : MatchCounts) (c d : ℕ) → a ≡ b → x ≡ y → p ≡ q → s ≡ t → i ≡ j → m ≡ n → c ≡ d
         → ◌≡◌ {A = ReaderKept}
-        (record { entity = a; writers = x; reader = p; store = s; seen = i; matches = m; here = c; misfits = f })
-        (record { entity = b; writers = y; reader = q; store = t; seen = j; matches = n; here = d; misfits = g })
-    reader_as a b x y p q s t i j m n c d f g e h k l u v w z = cc
+        (record { entity = a; writers = x; reader = p; store = s; seen = i; matches = m; here = c })
+        (record { entity = b; writers = y; reader = q; store = t; seen = j; matches = n; here = d })
+    reader_as a b x y p q s t i j m n c d e f g h l u v = cc
 
 -- what a cache answers is what the machine answers
 accessed : (tests : Tests) (kind : AccessKind) (c : Call) (test : Test) (i : ℕ) (selection : Selection)

@@ -81,7 +81,6 @@ writer_stands_on k w old new same s = record {
   counted = λ reader none. ap (λ (c : Contact). c.count) (same reader) ∙ s.counted reader none;
   quiet = λ reader there none. ap (λ (c : Contact). c.silent) (same reader) ∙ s.quiet reader there none;
   matches = s.matches;
-  misfits = s.misfits;
 }
   where
     each : {X : Type 0} (f : Contact → X) (rows : List ReaderProxy) → map (λ (p : ReaderProxy). f (new p.reader)) rows
@@ -172,7 +171,6 @@ reader_stands_on k proxies r old new same s = record {
   hows = s.hows;
   counts = s.counts;
   here_is = s.here_is;
-  misfits = s.misfits;
 }
 
 -- own reader n has become another one of the roster, and knows what it knows now

@@ -7,7 +7,6 @@ pub mod StrengthSteps
 pub mod ReaderSteps
 pub mod MetReaders
 pub mod MetWriters
-pub mod Missed
 pub mod MatchedWriters
 pub mod ChangesDue
 pub mod Ends

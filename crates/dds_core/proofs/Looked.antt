@@ -64,7 +64,6 @@ looked c kept i k reply seen roster peer s at is =
         hows = rs.hows;
         counts = rs.counts;
         here_is = rs.here_is;
-        misfits = rs.misfits;
       }),
     )
 

@@ -1,5 +1,5 @@
 -- What a call does that tells one of the peer's readers of a writer, or that asks with which it is matched.
-use Rattle.std.proofs.Common.{◌≡◌, ℕ, suc, ◌+◌, ◌-◌, ◌^◌, ◌<◌, Bool, true, false, not, ◌&&◌, ◌||◌, List, [], Option, Some, None, length, slice_get, refl, ap, sym, ◌∙◌, subst, arith, ⊎_elim}
+use Rattle.std.proofs.Common.{◌≡◌, ℕ, suc, ◌+◌, ◌-◌, ◌^◌, ◌<◌, Bool, true, false, not, ◌&&◌, List, [], Option, Some, None, length, slice_get, refl, ap, sym, ◌∙◌, subst, arith, ⊎_elim}
 use Rattle.std.specs.Prelude.{is_some, nat_le, nat_lt, if◌then◌else◌}
 use Rattle.std.specs.Option.{option_map_or}
 use Rattle.std.proofs.lemmas.Bool.Decides.{nat_tests}
@@ -13,26 +13,22 @@ use Rattle.dds_base.specs.declared.status.MatchedStatus.{MatchedStatus}
 use Rattle.dds_base.specs.Number.{is_number}
 use Rattle.dds_base.specs.Refusal.{Refuses}
 use Rattle.dds_machine.specs.declared.call.Call.TheVariants as call
-use Rattle.dds_machine.specs.declared.reply.Reply.TheVariants.{Done, IncompatibleQos, InstanceHandle, Matched, Refused}
+use Rattle.dds_machine.specs.declared.reply.Reply.TheVariants.{Done, InstanceHandle, Matched, Refused}
 use Rattle.dds_protocol.specs.declared.event.Event.TheVariants as event
 use Rattle.dds_protocol.specs.Peer.{Peer}
-use Rattle.dds_machine.specs.Calls.{after_matches_look, after_misfits_look}
-use Rattle.dds_machine.specs.Fitting.{is_misfit, misfit_status}
-use Rattle.dds_notices.specs.declared.incompatible.IncompatibleQosStatus.{IncompatibleQosStatus}
-use Rattle.dds_machine.specs.Matching.{happened_after, is_known, matching_refusal, parted_at, reader_joined, reader_left, reader_looked_at, reader_saw_misfits, subscription_matched, with_how, with_match}
+use Rattle.dds_machine.specs.Calls.{after_matches_look}
+use Rattle.dds_machine.specs.Matching.{happened_after, is_known, matching_refusal, parted_at, reader_joined, reader_left, reader_looked_at, subscription_matched, with_how, with_match}
 use Rattle.dds_machine.specs.Numbered.{HasNumber, numbered}
-use Rattle.dds_machine.specs.Part.{Away, Reader, WriterProxy, no_reader, how_of, is_attached, own_proxies, own_reader, publication_among, row_of}
+use Rattle.dds_machine.specs.Part.{Away, Reader, WriterProxy, how_of, is_attached, own_proxies, own_reader, publication_among, row_of}
 use Rattle.dds_machine.specs.Refusals.{reader_refusal}
 use Rattle.dds_machine.proofs.Tables.{number_there}
 use Rattle.dds_ends.specs.declared.matching.WriterName.{WriterName}
 use Rattle.dds_ends.specs.Identity.{reader_identity}
 use Rattle.dds_ends.specs.Kept.{ReaderKept}
 use Rattle.dds_core.specs.Kept.{PeerKept}
-use Rattle.dds_ends.specs.Looking.{SeesMatches, SeesMisfits, TellsMatches, TellsMisfits}
+use Rattle.dds_ends.specs.Looking.{SeesMatches, TellsMatches}
 use Rattle.dds_ends.specs.Parting.{Attaches, Detaches, IsPastParting}
 use Rattle.dds_ends.specs.Standing.{IsFirstRow, ReaderStands}
-use Rattle.rtps_reader.specs.Tracked.{Tracked}
-use Rattle.dds_core.specs.Missing.{IsUnknownCause}
 use Rattle.dds_core.specs.Standing.{StandsFor}
 use Rattle.dds_core.proofs.CallSteps.{Follows, answered_as, number_is, refused_call, there_is}
 use Rattle.dds_core.proofs.Ends.{own_reader_changed, own_reader_stepped, with_read, with_reader}
@@ -44,71 +40,30 @@ use Rattle.dds_core.proofs.Taking.{silent}
 
 -- ---- why it is refused
 
--- a misfit counts as known, and as told
-unfit_or_unknown : (known as_told unfit : Bool) → known ≡ false
-    → matching_refusal (known || unfit) (as_told || unfit)
-    ≡ Some (if unfit then PreconditionNotMet else BadParameter)
-unfit_or_unknown false true true is = refl
-unfit_or_unknown false false true is = refl
-unfit_or_unknown false true false is = refl
-unfit_or_unknown false false false is = refl
-unfit_or_unknown true as_told unfit is = absurd (let clash : true ≡ false = is in cc)
+refused_unknown : (known as_told : Bool) → known ≡ false → matching_refusal known as_told ≡ Some BadParameter
+refused_unknown known as_told is = ap (λ (b : Bool). matching_refusal b as_told) is
 
-twice_or_unfit : (known as_told unfit : Bool) → known ≡ true → as_told ≡ true
-    → matching_refusal (known || unfit) (as_told || unfit) ≡ Some PreconditionNotMet
-twice_or_unfit true true unfit is told = refl
-twice_or_unfit true false unfit is told = absurd (let clash : false ≡ true = told in cc)
-twice_or_unfit false as_told unfit is told = absurd (let clash : false ≡ true = is in cc)
+refused_twice : (known as_told : Bool) → known ≡ true → as_told ≡ true
+    → matching_refusal known as_told ≡ Some PreconditionNotMet
+refused_twice true true is told = refl
+refused_twice true false is told = absurd (let clash : false ≡ true = told in cc)
+refused_twice false as_told is told = absurd (let clash : false ≡ true = is in cc)
 
-unfit_there : (known as_told unfit : Bool) → known ≡ true → unfit ≡ true
-    → matching_refusal (known || unfit) (as_told || unfit) ≡ Some PreconditionNotMet
-unfit_there true true true is told = refl
-unfit_there true false true is told = refl
-unfit_there true as_told false is told = absurd (let clash : false ≡ true = told in cc)
-unfit_there false as_told unfit is told = absurd (let clash : false ≡ true = is in cc)
+not_refused : (known as_told : Bool) → known ≡ true → as_told ≡ false → matching_refusal known as_told ≡ None
+not_refused true false is told = refl
+not_refused true true is told = absurd (let clash : true ≡ false = told in cc)
+not_refused false as_told is told = absurd (let clash : false ≡ true = is in cc)
 
-fits_there : (known as_told unfit : Bool) → known ≡ true → as_told ≡ false → unfit ≡ false
-    → matching_refusal (known || unfit) (as_told || unfit) ≡ None
-fits_there true false false is told fits = refl
-fits_there true false true is told fits = absurd (let clash : true ≡ false = fits in cc)
-fits_there true true unfit is told fits = absurd (let clash : true ≡ false = told in cc)
-fits_there false as_told unfit is told fits = absurd (let clash : false ≡ true = is in cc)
-
--- and where the two are to be matched no longer
-unfit_or_apart : (known unfit : Bool) → known ≡ false
-    → matching_refusal (known || unfit) true ≡ Some (if unfit then PreconditionNotMet else BadParameter)
-unfit_or_apart false true is = refl
-unfit_or_apart false false is = refl
-unfit_or_apart true unfit is = absurd (let clash : true ≡ false = is in cc)
-
-apart_there : (known as_told unfit : Bool) → known ≡ true → as_told ≡ true
-    → matching_refusal (known || unfit) as_told ≡ Some PreconditionNotMet
-apart_there true true unfit is told = refl
-apart_there true false unfit is told = absurd (let clash : false ≡ true = told in cc)
-apart_there false as_told unfit is told = absurd (let clash : false ≡ true = is in cc)
-
-leaves_there : (known as_told unfit : Bool) → known ≡ true → as_told ≡ false
-    → matching_refusal (known || unfit) as_told ≡ None
-leaves_there true false unfit is told = refl
-leaves_there true true unfit is told = absurd (let clash : true ≡ false = told in cc)
-leaves_there false as_told unfit is told = absurd (let clash : false ≡ true = is in cc)
-
--- the code is that of one that does not know the writer, and so no want of memory
-never_memory : (unfit : Bool) (code : Code) → code ≡ (if unfit then PreconditionNotMet else BadParameter)
-    → code ≡ Memory → ⊥
-never_memory true code is memory = let clash : PreconditionNotMet ≡ Memory = sym is ∙ memory in absurd cc
-never_memory false code is memory = let clash : BadParameter ≡ Memory = sym is ∙ memory in absurd cc
-
--- nothing is there of a number that there is not
-nothing_there : {X : Type 0} (xs : List X) (n count : ℕ) (none_of : X) → length xs ≡ count → is_number n count ≡ false
-    → numbered xs n none_of ≡ none_of
-nothing_there xs n count none_of same none =
-    ⊎_elim (λ (there : HasNumber xs n).
+-- a reader that is not there knows nobody
+no_rows : (rows : List (List WriterProxy)) (n count : ℕ) → length rows ≡ count → is_number n count ≡ false
+    → numbered rows n [] ≡ []
+no_rows rows n count same none =
+    ⊎_elim (λ (there : HasNumber rows n).
     let low = there.0 in
     let high = there.1 in
     let yes : (nat_lt 0 n && nat_le n count) ≡ true =
     both (nat_lt 0 n) (nat_le n count) (grind (arith, nat_tests, low)) (grind (arith, nat_tests, high, same)) in
-    absurd (let clash : true ≡ false = sym yes ∙ none in cc)) (λ e. e) (number_there xs n none_of)
+    absurd (let clash : true ≡ false = sym yes ∙ none in cc)) (λ e. e) (number_there rows n [])
   where
     both : (a b : Bool) → a ≡ true → b ≡ true → (a && b) ≡ true
     both true true f g = refl
@@ -121,14 +76,7 @@ nobody_known : (kept : PeerKept) (roster : Roster) (peer : Peer) (reader : ℕ) 
     → is_known (own_proxies peer.part reader) writer ≡ false
 nobody_known kept roster peer reader writer s none =
     ap (λ (rows : List WriterProxy). is_known rows writer)
-    (nothing_there peer.part.rtps.readers reader (length kept.readers) [] s.readers.rows none)
-
-no_misfit : (kept : PeerKept) (roster : Roster) (peer : Peer) (reader : ℕ) (writer : Endpoint)
-    → StandsFor kept roster peer → is_number reader (length kept.readers) ≡ false
-    → is_misfit (own_reader peer.part reader).misfits writer ≡ false
-no_misfit kept roster peer reader writer s none =
-    ap (λ (r : Reader). is_misfit r.misfits writer)
-    (nothing_there peer.part.dds.readers reader (length kept.readers) no_reader s.readers.count none)
+    (no_rows peer.part.rtps.readers reader (length kept.readers) s.readers.rows none)
 
 -- ---- the reader of an index, which is told of the writer of a row
 
@@ -180,11 +128,6 @@ module _ {kept : PeerKept} {roster : Roster} {peer : Peer} {reader i row : ℕ} 
       is writer (own_proxies peer.part reader) (own_reader peer.part reader) (λ w. peer.known.tracked w reader) a.first
       (stood_there a)
 
--- the writer does not fit the reader, as that was told of it last, or it does
-abbrev pub IsMisfitSo : ReaderKept → Endpoint → Bool → Type 0
-IsMisfitSo k writer b = (proxies : List WriterProxy) (r : Reader) (tracked : Endpoint → Tracked)
-    → ReaderStands k proxies r tracked → is_misfit r.misfits writer ≡ b
-
 -- ---- the calls
 
 -- the peer has no such reader
@@ -194,9 +137,7 @@ pub no_reader_matched : (kept : PeerKept) (roster : Roster) (peer : Peer) (reade
 no_reader_matched kept roster peer reader writer s none =
     refused_call kept roster peer s (call.MatchWriter reader writer) BadParameter (
       subst (λ (o : Option Code). Refuses o BadParameter)
-          (sym (unfit_or_unknown _ _ _ (nobody_known kept roster peer reader writer s none)
-          ∙ ap (λ (b : Bool). Some (if b then PreconditionNotMet else BadParameter))
-          (no_misfit kept roster peer reader writer s none))) refl,
+          (sym (refused_unknown _ _ (nobody_known kept roster peer reader writer s none))) refl,
       λ memory. absurd cc,
       refl,
     )
@@ -207,12 +148,7 @@ pub no_reader_unmatched : (kept : PeerKept) (roster : Roster) (peer : Peer) (rea
 no_reader_unmatched kept roster peer reader writer s none =
     refused_call kept roster peer s (call.UnmatchWriter reader writer) BadParameter (
       subst (λ (o : Option Code). Refuses o BadParameter)
-          (sym (ap (λ (b : Bool). matching_refusal (b || is_misfit (own_reader peer.part reader).misfits writer)
-          (not (is_attached (how_of (own_proxies peer.part reader) writer))))
-          (nobody_known kept roster peer reader writer s none)
-          ∙ ap (λ (b : Bool). matching_refusal (false || b)
-          (not (is_attached (how_of (own_proxies peer.part reader) writer))))
-          (no_misfit kept roster peer reader writer s none))) refl,
+          (sym (refused_unknown _ _ (nobody_known kept roster peer reader writer s none))) refl,
       λ memory. absurd cc,
       refl,
     )
@@ -226,79 +162,27 @@ not_known_there kept roster peer reader i k writer s is at none =
     subst (λ (n : ℕ). is_known (own_proxies peer.part n) writer ≡ false) (number_is reader i is)
     (not_known (own_proxies peer.part (suc i)) k.writers writer (s.readers.each i k at).writers_are none)
 
--- a writer that it does not know
-pub met_by_none : (kept : PeerKept) (reader i : ℕ) (k : ReaderKept) (writer : Endpoint) → reader ≡ i + 1
-    → slice_get kept.readers i ≡ Some k
-    → ((j : ℕ) (n : WriterName) → slice_get k.writers j ≡ Some n → n.writer ≡ writer → ⊥)
-    → (roster : Roster) (peer : Peer) → StandsFor kept roster peer
-    → false ≡ is_attached (how_of (own_proxies peer.part reader) writer)
-met_by_none kept reader i k writer number at none roster peer s =
-    away (row_of (λ (p : WriterProxy). p.writer) (own_proxies peer.part reader) writer)
-    (not_known_there kept roster peer reader i k writer s number at none)
-  where
-    away : (o : Option WriterProxy) → is_some o ≡ false
-        → false ≡ is_attached (option_map_or (λ (p : WriterProxy). p.how) o Away)
-    away None h = refl
-    away (Some p) h = absurd (let clash : true ≡ false = h in cc)
-
--- the cause, as it was found out
-pub unknown_by : (kept now : PeerKept) (i : ℕ) (k : ReaderKept) (writer : Endpoint) {misfit said : Bool} → kept ≡ now
-    → slice_get kept.readers i ≡ Some k
-    → ((proxies : List WriterProxy) (r : Reader) (tracked : Endpoint → Tracked) → ReaderStands k proxies r tracked
-    → misfit ≡ is_misfit r.misfits writer)
-    → misfit ≡ said → IsUnknownCause now i writer (if said then PreconditionNotMet else BadParameter)
-unknown_by kept now i k writer {misfit} {said} view at reads is =
-    subst (λ (x : PeerKept). IsUnknownCause x i writer (if said then PreconditionNotMet else BadParameter)) view
-    (λ other there proxies r tracked s.
-    ap (λ (b : Bool). if b then PreconditionNotMet else BadParameter)
-    (sym is
-    ∙ reads proxies r tracked
-    (subst (λ (x : ReaderKept). ReaderStands x proxies r tracked) (same_Some other k (sym there ∙ at)) s)))
-
--- why it is not told of that one
-cause_there : (kept : PeerKept) (roster : Roster) (peer : Peer) (reader i : ℕ) (k : ReaderKept) (writer : Endpoint)
-    (code : Code) → StandsFor kept roster peer → reader ≡ i + 1 → slice_get kept.readers i ≡ Some k
-    → IsUnknownCause kept i writer code
-    → code ≡ (if is_misfit (own_reader peer.part reader).misfits writer then PreconditionNotMet else BadParameter)
-cause_there kept roster peer reader i k writer code s is at cause =
-    subst (λ (n : ℕ). code
-    ≡ (if is_misfit (own_reader peer.part n).misfits writer then PreconditionNotMet else BadParameter))
-    (number_is reader i is)
-    (cause k at (own_proxies peer.part (suc i)) (own_reader peer.part (suc i)) (λ w. peer.known.tracked w (suc i))
-    (s.readers.each i k at))
-
 pub no_writer_matched : (kept : PeerKept) (roster : Roster) (peer : Peer) (reader i : ℕ) (k : ReaderKept)
-    (writer : Endpoint) (code : Code) → StandsFor kept roster peer → reader ≡ i + 1 → slice_get kept.readers i ≡ Some k
+    (writer : Endpoint) → StandsFor kept roster peer → reader ≡ i + 1 → slice_get kept.readers i ≡ Some k
     → ((j : ℕ) (n : WriterName) → slice_get k.writers j ≡ Some n → n.writer ≡ writer → ⊥)
-    → IsUnknownCause kept i writer code
-    → Follows kept roster peer (event.Call (call.MatchWriter reader writer)) (silent (Refused code))
-no_writer_matched kept roster peer reader i k writer code s is at none cause =
-    let why = cause_there kept roster peer reader i k writer code s is at cause in
-    refused_call kept roster peer s (call.MatchWriter reader writer) code (
-      subst (λ (o : Option Code). Refuses o code)
-          (sym (unfit_or_unknown _ _ _ (not_known_there kept roster peer reader i k writer s is at none)
-          ∙ ap (λ (c : Code). Some c) (sym why))) refl,
-      λ memory. absurd (never_memory (is_misfit (own_reader peer.part reader).misfits writer) code why memory),
+    → Follows kept roster peer (event.Call (call.MatchWriter reader writer)) (silent (Refused BadParameter))
+no_writer_matched kept roster peer reader i k writer s is at none =
+    refused_call kept roster peer s (call.MatchWriter reader writer) BadParameter (
+      subst (λ (o : Option Code). Refuses o BadParameter)
+          (sym (refused_unknown _ _ (not_known_there kept roster peer reader i k writer s is at none))) refl,
+      λ memory. absurd cc,
       refl,
     )
 
 pub no_writer_unmatched : (kept : PeerKept) (roster : Roster) (peer : Peer) (reader i : ℕ) (k : ReaderKept)
-    (writer : Endpoint) (code : Code) → StandsFor kept roster peer → reader ≡ i + 1 → slice_get kept.readers i ≡ Some k
+    (writer : Endpoint) → StandsFor kept roster peer → reader ≡ i + 1 → slice_get kept.readers i ≡ Some k
     → ((j : ℕ) (n : WriterName) → slice_get k.writers j ≡ Some n → n.writer ≡ writer → ⊥)
-    → IsUnknownCause kept i writer code
-    → Follows kept roster peer (event.Call (call.UnmatchWriter reader writer)) (silent (Refused code))
-no_writer_unmatched kept roster peer reader i k writer code s is at none cause =
-    let why = cause_there kept roster peer reader i k writer code s is at cause in
-    let apart : is_attached (how_of (own_proxies peer.part reader) writer) ≡ false =
-    sym (met_by_none kept reader i k writer is at none roster peer s) in
-    refused_call kept roster peer s (call.UnmatchWriter reader writer) code (
-      subst (λ (o : Option Code). Refuses o code)
-          (sym (ap (λ (b : Bool). matching_refusal
-          (is_known (own_proxies peer.part reader) writer || is_misfit (own_reader peer.part reader).misfits writer)
-          (not b)) apart
-          ∙ (unfit_or_apart _ _ (not_known_there kept roster peer reader i k writer s is at none)
-          ∙ ap (λ (c : Code). Some c) (sym why)))) refl,
-      λ memory. absurd (never_memory (is_misfit (own_reader peer.part reader).misfits writer) code why memory),
+    → Follows kept roster peer (event.Call (call.UnmatchWriter reader writer)) (silent (Refused BadParameter))
+no_writer_unmatched kept roster peer reader i k writer s is at none =
+    refused_call kept roster peer s (call.UnmatchWriter reader writer) BadParameter (
+      subst (λ (o : Option Code). Refuses o BadParameter)
+          (sym (refused_unknown _ _ (not_known_there kept roster peer reader i k writer s is at none))) refl,
+      λ memory. absurd cc,
       refl,
     )
 
@@ -312,24 +196,7 @@ matched_already kept roster peer reader i row k writer met s number at first is 
     record { stands = s; number = number; at = at; first = first } in
     refused_call kept roster peer s (call.MatchWriter reader writer) PreconditionNotMet (
       subst (λ (o : Option Code). Refuses o PreconditionNotMet)
-          (sym (twice_or_unfit _ _ _ (is_known_there a) (sym (met_there met is a) ∙ met_is))) refl,
-      λ memory. absurd cc,
-      refl,
-    )
-
--- the writer does not fit, as it was told of it
-pub unfit_already : (kept : PeerKept) (roster : Roster) (peer : Peer) (reader i row : ℕ) (k : ReaderKept)
-    (writer : Endpoint) → StandsFor kept roster peer → reader ≡ i + 1 → slice_get kept.readers i ≡ Some k
-    → IsFirstRow k.writers writer row → IsMisfitSo k writer true
-    → Follows kept roster peer (event.Call (call.MatchWriter reader writer)) (silent (Refused PreconditionNotMet))
-unfit_already kept roster peer reader i row k writer s number at first unfit =
-    let a : IsAt kept roster peer reader i row k writer =
-    record { stands = s; number = number; at = at; first = first } in
-    refused_call kept roster peer s (call.MatchWriter reader writer) PreconditionNotMet (
-      subst (λ (o : Option Code). Refuses o PreconditionNotMet)
-          (sym (unfit_there _ _ _ (is_known_there a)
-          (unfit (own_proxies peer.part reader) (own_reader peer.part reader) (λ w. peer.known.tracked w reader)
-          (stood_there a)))) refl,
+          (sym (refused_twice _ _ (is_known_there a) (sym (met_there met is a) ∙ met_is))) refl,
       λ memory. absurd cc,
       refl,
     )
@@ -344,7 +211,7 @@ unmatched_already kept roster peer reader i row k writer met s number at first i
     record { stands = s; number = number; at = at; first = first } in
     refused_call kept roster peer s (call.UnmatchWriter reader writer) PreconditionNotMet (
       subst (λ (o : Option Code). Refuses o PreconditionNotMet)
-          (sym (apart_there _ _ _ (is_known_there a)
+          (sym (refused_twice _ _ (is_known_there a)
           (ap (λ (b : Bool). not b) (sym (met_there met is a) ∙ met_is)))) refl,
       λ memory. absurd cc,
       refl,
@@ -354,10 +221,10 @@ unmatched_already kept roster peer reader i row k writer met s number at first i
 pub matches_writer : (kept : PeerKept) (roster : Roster) (peer : Peer) (reader i row : ℕ) (k k' : ReaderKept)
     (writer : Endpoint) (met : Bool) (handle : ℕ) → StandsFor kept roster peer → reader ≡ i + 1
     → slice_get kept.readers i ≡ Some k → IsFirstRow k.writers writer row → IsMatchedSo k row met → met ≡ false
-    → IsMisfitSo k writer false → Attaches k row k' → handle ≡ row + 1
+    → Attaches k row k' → handle ≡ row + 1
     → Follows (with_reader kept i k') roster peer (event.Call (call.MatchWriter reader writer))
     (silent (InstanceHandle handle))
-matches_writer kept roster peer reader i row k k' writer met handle s number at first is met_is fits attaches same =
+matches_writer kept roster peer reader i row k k' writer met handle s number at first is met_is attaches same =
     let a : IsAt kept roster peer reader i row k writer =
     record { stands = s; number = number; at = at; first = first } in
     let rows : List WriterProxy = own_proxies peer.part reader in
@@ -369,8 +236,7 @@ matches_writer kept roster peer reader i row k k' writer met handle s number at 
         step = (
           record {
             answers = (
-              fits_there _ _ _ (is_known_there a) (sym (met_there met is a) ∙ met_is)
-                  (fits rows r (λ w. peer.known.tracked w reader) (stood_there a)),
+              not_refused _ _ (is_known_there a) (sym (met_there met is a) ∙ met_is),
               ap InstanceHandle
                   (same ∙ ap (λ (o : Option ℕ). option_map_or (λ (n : ℕ). n) o 0) (sym (handle_there a))),
               refl,
@@ -404,7 +270,7 @@ unmatches_writer kept roster peer reader i row k k' writer met s number at first
         step = (
           record {
             answers = (
-              leaves_there _ _ _ (is_known_there a) (ap (λ (b : Bool). not b) (sym (met_there met is a) ∙ met_is)),
+              not_refused _ _ (is_known_there a) (ap (λ (b : Bool). not b) (sym (met_there met is a) ∙ met_is)),
               refl,
               refl,
             );
@@ -438,7 +304,7 @@ unmatched_past kept roster peer reader i row k k' writer met code s number at fi
     (sym (set_back kept.readers i k k' at back))
     (refused_call kept roster peer s (call.UnmatchWriter reader writer) code (
       subst (λ (o : Option Code). Refuses o code)
-          (sym (leaves_there _ _ _ (is_known_there a) (ap (λ (b : Bool). not b) (sym (met_there met is a) ∙ met_is))))
+          (sym (not_refused _ _ (is_known_there a) (ap (λ (b : Bool). not b) (sym (met_there met is a) ∙ met_is))))
           memory,
       λ is_memory.
           subst (λ (now : ℕ). 2 ^ 64 - 1 < length (happened_after (publication_among rows writer) now r.happened))
@@ -499,6 +365,21 @@ pub met_as_told : (kept : PeerKept) (reader i row : ℕ) (k : ReaderKept) (write
 met_as_told kept reader i row k writer met number at first is roster peer s =
     met_there met is (record { stands = s; number = number; at = at; first = first })
 
+-- a writer that it does not know
+pub met_by_none : (kept : PeerKept) (reader i : ℕ) (k : ReaderKept) (writer : Endpoint) → reader ≡ i + 1
+    → slice_get kept.readers i ≡ Some k
+    → ((j : ℕ) (n : WriterName) → slice_get k.writers j ≡ Some n → n.writer ≡ writer → ⊥)
+    → (roster : Roster) (peer : Peer) → StandsFor kept roster peer
+    → false ≡ is_attached (how_of (own_proxies peer.part reader) writer)
+met_by_none kept reader i k writer number at none roster peer s =
+    away (row_of (λ (p : WriterProxy). p.writer) (own_proxies peer.part reader) writer)
+    (not_known_there kept roster peer reader i k writer s number at none)
+  where
+    away : (o : Option WriterProxy) → is_some o ≡ false
+        → false ≡ is_attached (option_map_or (λ (p : WriterProxy). p.how) o Away)
+    away None h = refl
+    away (Some p) h = absurd (let clash : true ≡ false = h in cc)
+
 -- a reader that is not there
 pub met_by_nobody : (kept : PeerKept) (reader : ℕ) (writer : Endpoint) → is_number reader (length kept.readers) ≡ false
     → (roster : Roster) (peer : Peer) → StandsFor kept roster peer
@@ -517,56 +398,8 @@ row_again readers i {row} {k0} {k} {writer = writer} before at same first =
     subst (λ (x : ReaderKept). IsFirstRow x.writers writer row) (same_Some k0 k (sym before ∙ at))
     (subst (λ (ns : List WriterName). IsFirstRow ns writer row) same first)
 
--- what it says of a writer that does not fit, or does
-pub misfit_again : (readers : List ReaderKept) (i : ℕ) {k0 k : ReaderKept} {writer : Endpoint} {b : Bool}
-    → slice_get readers i ≡ Some k0 → slice_get readers i ≡ Some k → IsMisfitSo k0 writer b → IsMisfitSo k writer b
-misfit_again readers i {k0} {k} {writer} {b} before at is =
-    subst (λ (x : ReaderKept). IsMisfitSo x writer b) (same_Some k0 k (sym before ∙ at)) is
-
 -- what it says of the row
 pub met_again : (readers : List ReaderKept) (i : ℕ) {row : ℕ} {k0 k : ReaderKept} {met : Bool}
     → slice_get readers i ≡ Some k0 → slice_get readers i ≡ Some k → IsMatchedSo k0 row met → IsMatchedSo k row met
 met_again readers i {row} {k0} {k} {met} before at is =
     subst (λ (x : ReaderKept). IsMatchedSo x row met) (same_Some k0 k (sym before ∙ at)) is
-
--- a look at REQUESTED_INCOMPATIBLE_QOS of the reader of this index
-pub looked_at_misfits : (kept : PeerKept) (reader i : ℕ) (k k' : ReaderKept) (status : IncompatibleQosStatus)
-    (roster : Roster) (peer : Peer) → StandsFor kept roster peer → reader ≡ i + 1 → slice_get kept.readers i ≡ Some k
-    → TellsMisfits k status → SeesMisfits k k'
-    → Follows (with_reader kept i k') roster peer (event.Call (call.GetRequestedIncompatibleQos reader))
-    (silent (IncompatibleQos status))
-looked_at_misfits kept reader i k k' status roster peer s number at tells sees =
-    subst (λ (n : ℕ). Follows (with_reader kept i k') roster peer (event.Call (call.GetRequestedIncompatibleQos n))
-    (silent (IncompatibleQos status))) (number_is reader i number) (
-      record peer { part = record peer.part { dds = after_misfits_look peer.part (suc i) } },
-      record {
-        same_number = refl;
-        knows = refl;
-        step = (
-          record {
-            answers =
-                answered_as _ (IncompatibleQos (misfit_status r.misfits)) _ peer.part _ there (ap IncompatibleQos told);
-            rtps = refl;
-          },
-          refl,
-        );
-        sent = λ p x m h. absurd (omega (arith, m.1));
-      },
-      own_reader_changed kept i k k' (reader_saw_misfits r) roster peer s at sees.same
-          (sees.stands rows r (λ w. peer.known.tracked w (suc i)) (s.readers.each i k at)),
-    )
-  where
-    rows : List WriterProxy
-    rows = own_proxies peer.part (suc i)
-
-    r : Reader
-    r = own_reader peer.part (suc i)
-
-    told : status ≡ misfit_status r.misfits
-    told = tells rows r (λ w. peer.known.tracked w (suc i)) (s.readers.each i k at)
-
-    there : reader_refusal peer.part (suc i) ≡ None
-    there =
-        let count = s.readers.count in
-        ap (λ (b : Bool). if not b then Some BadParameter else None)
-        (there_is peer.part.dds.readers i (omega (arith, get-within kept.readers i k at, count)))

@@ -1,27 +1,22 @@
 -- What a writer that meets a reader does to a peer: the roster has the reader, or it is refused.
-use Rattle.std.proofs.Common.{◌≡◌, ℕ, suc, ◌+◌, ◌<◌, ◌&&◌, Bool, true, false, List, [], ◌∷◌, ◌++◌, Option, None, Some, inl, inr, length, slice_get, refl, ap, sym, subst, ◌∙◌, arith, ⊎_elim}
+use Rattle.std.proofs.Common.{◌≡◌, ℕ, suc, ◌+◌, ◌<◌, ◌&&◌, Bool, true, false, List, [], ◌∷◌, ◌++◌, Option, None, Some, length, slice_get, refl, ap, sym, subst, ◌∙◌, arith, ⊎_elim}
 use Rattle.std.specs.Prelude.{if◌then◌else◌}
 use Rattle.std.specs.Option.{option_or}
-use Rattle.std.proofs.lemmas.Option.{same_Some}
 use Rattle.dds_base.specs.declared.code.Code.{Code}
 use Rattle.dds_base.specs.declared.code.Code.TheVariants.{BadParameter, Memory, OutOfResources}
 use Rattle.dds_base.specs.declared.endpoint.Endpoint.{Endpoint}
 use Rattle.dds_base.specs.declared.guid.EntityId.{EntityId}
-use Rattle.dds_base.specs.declared.unfit.UnfitPolicies.{UnfitPolicies}
 use Rattle.dds_base.specs.Matched.{is_reliable}
-use Rattle.dds_base.specs.Offers.{is_empty, unfit_policies}
 use Rattle.dds_base.specs.Number.{is_number}
 use Rattle.dds_base.specs.Refusal.{Refuses}
 use Rattle.dds_machine.specs.declared.call.Call.TheVariants as call
 use Rattle.dds_machine.specs.declared.far.FarReader.{FarReader}
-use Rattle.dds_machine.specs.declared.reply.Reply.{Reply}
-use Rattle.dds_machine.specs.declared.reply.Reply.TheVariants.{Done, Incompatible, Refused}
+use Rattle.dds_machine.specs.declared.reply.Reply.TheVariants.{Done, Refused}
 use Rattle.dds_machine.specs.Calls.{far_reader_told}
-use Rattle.dds_machine.specs.Matching.{is_matched, knows_reader, knows_too_many, matching_refusal, may_meet_reader, meets_reliable, met, missed, telling_refusal, told_fit}
+use Rattle.dds_machine.specs.Matching.{is_matched, knows_reader, knows_too_many, matching_refusal, may_meet_reader, meets_reliable, met, telling_refusal}
 use Rattle.dds_machine.specs.Naming.{is_name_among, with_name}
 use Rattle.dds_machine.specs.Numbered.{has_element}
 use Rattle.dds_machine.specs.Part.{Name, Names, Part, Writer, at_writer, own_writer, writer_changes}
-use Rattle.dds_names.specs.Known.{without_new_reader}
 use Rattle.dds_protocol.specs.declared.event.Event.{Event}
 use Rattle.dds_protocol.specs.declared.event.Event.TheVariants as event
 use Rattle.dds_protocol.specs.declared.event.Output.{Output}
@@ -32,8 +27,7 @@ use Rattle.dds_protocol.specs.Protocol.{Known}
 use Rattle.dds_protocol.specs.Roster.{Roster}
 use Rattle.dds_ends.specs.declared.matching.ReaderName.{ReaderName}
 use Rattle.dds_ends.specs.declared.matching.TopicName.{TopicName}
-use Rattle.dds_protocol.specs.Contact.{Contact}
-use Rattle.dds_ends.specs.Coming.{Misses, RefusesSo, matched_anew}
+use Rattle.dds_ends.specs.Coming.{RefusesSo, matched_anew}
 use Rattle.dds_ends.specs.Identity.{IsWriterOf, writer_identity}
 use Rattle.dds_ends.specs.Kept.{WriterKept}
 use Rattle.dds_ends.specs.MatchedEnds.{AreKnownReaders, IsKnownReader, is_named, names_of}
@@ -43,14 +37,11 @@ use Rattle.dds_ends.proofs.Alike.{last-cases}
 use Rattle.dds_ends.proofs.Lists.{map-get}
 use Rattle.dds_core.specs.Identity.{IsPeerOf, KnowsNames, identity_of}
 use Rattle.dds_core.specs.Kept.{PeerKept}
-use Rattle.dds_core.specs.Missing.{MissesReader}
 use Rattle.dds_core.specs.Ruling.{IsSound}
 use Rattle.dds_core.specs.Somewhere.{MeetsSomewhere, Somewhere}
 use Rattle.dds_core.specs.Standing.{StandsFor}
-use Rattle.dds_core.proofs.AnyTests.{nobody_met_then}
 use Rattle.dds_core.proofs.CallSteps.{Follows, no_such, number_is, refused_call, there_is}
-use Rattle.dds_core.proofs.Ends.{unchanged_with, with_writer, writer_put, writer_stands_on}
-use Rattle.dds_core.proofs.Tellable.{tellable_put}
+use Rattle.dds_core.proofs.Ends.{unchanged_with, with_writer, writer_stands_on}
 use Rattle.dds_core.proofs.ReaderSteps.{peer_of_writer, told_elsewhere, told_here, writer_end, writer_told}
 use Rattle.dds_core.proofs.Taking.{silent}
 use Rattle.dds_core.proofs.Agreeing.{has_its_kind, has_prefix, one_reader_more, reader_named, readers_agree, reliable_before, writers_beside}
@@ -387,26 +378,20 @@ changes_stay w reader reliable = by (knows_reader w reader)
   where
     by : (b : Bool)
         → writer_changes
-        (if b then told_fit w reader
-        else record (told_fit w reader) { known = w.known ++ record { reader = reader; reliable = reliable } ∷ [] })
+        (if b then w else record w { known = w.known ++ record { reader = reader; reliable = reliable } ∷ [] })
         ≡ writer_changes w
     by true = refl
     by false = refl
 
--- the reader fits the writer, as that is kept
-abbrev pub FitsReader : WriterKept → FarReader → Type 0
-FitsReader k far = (w : Writer) (answered : Endpoint → Contact) → WriterStands k w answered
-    → is_empty (unfit_policies w.offered far.requested) ≡ true
-
 -- the reader is met
 meets : (kept : PeerKept) (i : ℕ) (k k' : WriterKept) (names : Names) (far : FarReader) (reliable greeted : Bool)
     (roster : Roster) (peer : Peer) → AtWriter kept i k far reliable roster peer
-    → RefusesSo meeting_refusal k far.endpoint (λ refusal. refusal ≡ None) → FitsReader k far
+    → RefusesSo meeting_refusal k far.endpoint (λ refusal. refusal ≡ None)
     → Meets k (reader_name far) (far_reliable far) greeted k'
     → names ≡ record kept.names { readers = with_name kept.names.readers (far_name far) }
     → FollowsMeeting (with_names (with_writer kept i k') names) roster peer
     (event.Call (call.MeetReader (suc i) far greeted)) (silent Done)
-meets kept i k k' names far reliable greeted roster peer a accepted fits m is_now has = (
+meets kept i k k' names far reliable greeted roster peer a accepted m is_now has = (
   naming stepped (record peer.part.rtps.names { readers = with_name peer.part.rtps.names.readers (far_name far) }),
   record {
     same_number = refl;
@@ -414,13 +399,10 @@ meets kept i k k' names far reliable greeted roster peer a accepted fits m is_no
     step = (
       record {
         answers = (
-          fits w (peer.known.answered (suc i)) stands,
-          (
-            refusal_if peer.part (suc i) far true (may_be_met kept i k far reliable roster peer a)
-                ∙ accepted w (peer.known.answered (suc i)) stands,
-            refl,
-            refl,
-          ),
+          refusal_if peer.part (suc i) far true (may_be_met kept i k far reliable roster peer a)
+              ∙ accepted w (peer.known.answered (suc i)) stands,
+          refl,
+          refl,
         );
         rtps = refl;
       },
@@ -485,15 +467,15 @@ meets kept i k k' names far reliable greeted roster peer a accepted fits m is_no
 
 pub meets_at : (kept : PeerKept) (writer i : ℕ) (k k' : WriterKept) (names : Names) (far : FarReader)
     (reliable greeted : Bool) (roster : Roster) (peer : Peer) → AtWriter kept i k far reliable roster peer
-    → writer ≡ i + 1 → RefusesSo meeting_refusal k far.endpoint (λ refusal. refusal ≡ None) → FitsReader k far
+    → writer ≡ i + 1 → RefusesSo meeting_refusal k far.endpoint (λ refusal. refusal ≡ None)
     → Meets k (reader_name far) reliable greeted k'
     → names ≡ record kept.names { readers = with_name kept.names.readers (name_by far reliable) }
     → FollowsMeeting (with_names (with_writer kept i k') names) roster peer
     (event.Call (call.MeetReader writer far greeted)) (silent Done)
-meets_at kept writer i k k' names far reliable greeted roster peer a is accepted fits m is_now =
+meets_at kept writer i k k' names far reliable greeted roster peer a is accepted m is_now =
     subst (λ (n : ℕ). FollowsMeeting (with_names (with_writer kept i k') names) roster peer
     (event.Call (call.MeetReader n far greeted)) (silent Done)) (number_is writer i is)
-    (meets kept i k k' names far reliable greeted roster peer a accepted fits
+    (meets kept i k k' names far reliable greeted roster peer a accepted
     (subst (λ (b : Bool). Meets k (reader_name far) b greeted k') a.read m)
     (is_now ∙ ap (λ (b : Bool). record kept.names { readers = with_name kept.names.readers (name_by far b) }) a.read))
 
@@ -544,168 +526,6 @@ meets_not kept writer i k k' names far reliable greeted code roster peer a is re
     (event.Call (call.MeetReader writer far greeted)) (silent (Refused code)))
     (sym (unchanged_with kept i k k' a.at same))
     (not_named kept writer i k names far reliable greeted code roster peer a is refused back)
-
--- ---- one that does not fit
-
--- the names that are known with it
-abbrev pub names_with : PeerKept → FarReader → Bool → Names
-names_with kept far reliable =
-    record kept.names { readers = with_name kept.names.readers (name_by far reliable) }
-
-misses : (kept : PeerKept) (i : ℕ) (k k' : WriterKept) (names : Names) (far : FarReader) (reliable greeted : Bool)
-    (unfit : UnfitPolicies) (roster : Roster) (peer : Peer) → AtWriter kept i k far reliable roster peer
-    → RefusesSo meeting_refusal k far.endpoint (λ refusal. refusal ≡ None)
-    → ((w : Writer) (answered : Endpoint → Contact) → WriterStands k w answered
-    → unfit ≡ unfit_policies w.offered far.requested)
-    → is_empty unfit ≡ false → Misses k far.endpoint far.requested k' → names ≡ names_with kept far (far_reliable far)
-    → Follows (with_names (with_writer kept i k') names) roster peer
-    (event.Call (call.MeetReader (suc i) far greeted)) (silent (Incompatible unfit))
-misses kept i k k' names far reliable greeted unfit roster peer a accepted by_policies some m is_now = (
-  naming stepped now_names,
-  record {
-    same_number = refl;
-    knows = refl;
-    step = (
-      record {
-        answers = (
-          subst (λ (u : UnfitPolicies). is_empty u ≡ false) same some,
-          same,
-          refusal_if peer.part (suc i) far true (may_be_met kept i k far reliable roster peer a)
-              ∙ accepted w (peer.known.answered (suc i)) stands,
-          refl,
-        );
-        rtps = refl;
-      },
-      refl,
-    );
-    sent = λ p x among h. absurd (omega (arith, among.1));
-  },
-  writer_put roster (naming peer now_names) (with_names kept names) named i k k' a.at m.same after peer.known.answered
-      (m.stands w (peer.known.answered (suc i)) stands) (λ j apart r. refl)
-      (tellable_put (naming peer now_names).part (suc i) after named.tellable refl),
-)
-  where
-    w : Writer
-    w = own_writer peer.part (suc i)
-
-    stands : WriterStands k w (peer.known.answered (suc i))
-    stands = a.stands.writers.each i k a.at
-
-    same : unfit ≡ unfit_policies w.offered far.requested
-    same = by_policies w (peer.known.answered (suc i)) stands
-
-    after : Writer
-    after = missed w far.endpoint far.requested
-
-    stepped : Peer
-    stepped = record peer { part = at_writer peer.part (suc i) after }
-
-    now_names : Names
-    now_names = record peer.part.rtps.names { readers = with_name peer.part.rtps.names.readers (far_name far) }
-
-    named : StandsFor (with_names kept names) roster (naming peer now_names)
-    named =
-        named_so kept names roster peer now_names a.stands
-        (ap (λ (ns : Names). record ns { readers = with_name ns.readers (far_name far) }) a.stands.names ∙ sym is_now)
-        (subst (λ (ns : Names). KnowsNames roster peer.number (identity_of kept) ns) (sym is_now)
-        (reader_named_too kept far roster peer a.stands))
-
--- the same by the index of its writer, where the name was added
-pub misses_at : (kept : PeerKept) (writer i : ℕ) (k k' : WriterKept) (names : Names) (far : FarReader)
-    (reliable greeted : Bool) (unfit : UnfitPolicies) (roster : Roster) (peer : Peer)
-    → AtWriter kept i k far reliable roster peer → writer ≡ i + 1
-    → RefusesSo meeting_refusal k far.endpoint (λ refusal. refusal ≡ None)
-    → ((w : Writer) (answered : Endpoint → Contact) → WriterStands k w answered
-    → unfit ≡ unfit_policies w.offered far.requested)
-    → is_empty unfit ≡ false → Misses k far.endpoint far.requested k' → names ≡ names_with kept far reliable
-    → Follows (with_names (with_writer kept i k') names) roster peer
-    (event.Call (call.MeetReader writer far greeted)) (silent (Incompatible unfit))
-misses_at kept writer i k k' names far reliable greeted unfit roster peer a is accepted by_policies some m is_now =
-    subst (λ (n : ℕ). Follows (with_names (with_writer kept i k') names) roster peer
-    (event.Call (call.MeetReader n far greeted)) (silent (Incompatible unfit))) (number_is writer i is)
-    (misses kept i k k' names far reliable greeted unfit roster peer a accepted by_policies some m
-    (is_now ∙ ap (λ (b : Bool). names_with kept far b) a.read))
-
--- where the answer is that it does not fit, nobody is met
-pub nobody_met_unfit : (kept : PeerKept) (writer : ℕ) (far : FarReader) (greeted : Bool) (unfit : UnfitPolicies)
-    (reply : Reply) → reply ≡ Incompatible unfit
-    → MeetsSomewhere kept (event.Call (call.MeetReader writer far greeted)) reply
-nobody_met_unfit kept writer far greeted unfit reply is =
-    subst (λ (r : Reply). MeetsSomewhere kept (event.Call (call.MeetReader writer far greeted)) r) (sym is)
-    (λ roster peer s sound. record {
-      roster = roster;
-      alike = peer;
-      number = refl;
-      part = refl;
-      stands = s;
-      sound = sound;
-      has = tt;
-    })
-
--- the writer is told of it, or no memory is left and the name goes
-pub misses_then : (kept : PeerKept) (names : Names) (writer i : ℕ) (k : WriterKept) (far : FarReader)
-    (reliable greeted is_new : Bool) (unfit : UnfitPolicies) (roster : Roster) (peer : Peer) (output : Output)
-    (new : PeerKept) → AtWriter kept i k far reliable roster peer → writer ≡ i + 1
-    → RefusesSo meeting_refusal k far.endpoint (λ refusal. refusal ≡ None)
-    → ((w : Writer) (answered : Endpoint → Contact) → WriterStands k w answered
-    → unfit ≡ unfit_policies w.offered far.requested)
-    → is_empty unfit ≡ false → names ≡ names_with kept far reliable → without_new_reader is_new names ≡ kept.names
-    → MissesReader (with_names kept names) i far unfit is_new output new
-    → FollowsMeeting new roster peer (event.Call (call.MeetReader writer far greeted)) output
-misses_then kept names writer i k far reliable greeted is_new unfit roster peer output new a is accepted by_policies some
-    is_now back did has = by did
-  where
-    by : MissesReader (with_names kept names) i far unfit is_new output new
-        → Follows new roster peer (event.Call (call.MeetReader writer far greeted)) output
-    by (inl m) =
-        let missed : Misses k far.endpoint far.requested m.after =
-        subst (λ (x : WriterKept). Misses x far.endpoint far.requested m.after) (same_Some m.writer k (sym m.at ∙ a.at))
-        m.misses in
-        subst (λ (x : PeerKept). Follows x roster peer (event.Call (call.MeetReader writer far greeted)) output)
-        (sym m.new_is)
-        (subst (λ (o : Output). Follows (with_names (with_writer kept i m.after) names) roster peer
-        (event.Call (call.MeetReader writer far greeted)) o) (sym m.says)
-        (misses_at kept writer i k m.after names far reliable greeted unfit roster peer a is accepted by_policies some missed
-        is_now))
-    by (inr t) =
-        subst (λ (x : PeerKept). Follows x roster peer (event.Call (call.MeetReader writer far greeted)) output)
-        (sym t.new_is)
-        (subst (λ (o : Output). Follows (with_names kept (without_new_reader is_new names)) roster peer
-        (event.Call (call.MeetReader writer far greeted)) o) (sym t.says)
-        (not_named kept writer i k (without_new_reader is_new names) far reliable greeted Memory roster peer a is
-        (λ w answered s. subst (λ (o : Option Code). Refuses o Memory) (sym (accepted w answered s)) refl) back has))
-
--- it is met by nobody then
-pub nobody_met_missed : (kept old new : PeerKept) (writer i : ℕ) (far : FarReader) (greeted is_new : Bool)
-    (unfit : UnfitPolicies) (output : Output) → MissesReader old i far unfit is_new output new
-    → MeetsSomewhere kept (event.Call (call.MeetReader writer far greeted)) output.reply
-nobody_met_missed kept old new writer i far greeted is_new unfit output did = by did
-  where
-    by : MissesReader old i far unfit is_new output new
-        → MeetsSomewhere kept (event.Call (call.MeetReader writer far greeted)) output.reply
-    by (inl m) = nobody_met_unfit kept writer far greeted unfit output.reply (ap (λ (o : Output). o.reply) m.says)
-    by (inr t) =
-        nobody_met_then kept (event.Call (call.MeetReader writer far greeted)) output.reply Memory
-        (ap (λ (o : Output). o.reply) t.says)
-
--- the writer of the index is the same that fits ..
-pub fits_again : (writers : List WriterKept) (i : ℕ) (far : FarReader) {k0 k : WriterKept} {unfit : UnfitPolicies}
-    → slice_get writers i ≡ Some k0 → slice_get writers i ≡ Some k
-    → ((w : Writer) (answered : Endpoint → Contact) → WriterStands k0 w answered
-    → unfit ≡ unfit_policies w.offered far.requested)
-    → is_empty unfit ≡ true → FitsReader k far
-fits_again writers i far {k0} {k} before at so none =
-    subst (λ (x : WriterKept). FitsReader x far) (same_Some k0 k (sym before ∙ at))
-    (λ w answered s. subst (λ (u : UnfitPolicies). is_empty u ≡ true) (so w answered s) none)
-
--- .. and that has no cause
-pub has_no_cause : (writers : List WriterKept) (i : ℕ) (far : FarReader) {k0 k : WriterKept} {cause : Option Code}
-    → slice_get writers i ≡ Some k0 → slice_get writers i ≡ Some k
-    → RefusesSo meeting_refusal k0 far.endpoint (λ refusal. refusal ≡ cause) → cause ≡ None
-    → RefusesSo meeting_refusal k far.endpoint (λ refusal. refusal ≡ None)
-has_no_cause writers i far {k0} {k} before at so none =
-    subst (λ (x : WriterKept). RefusesSo meeting_refusal x far.endpoint (λ refusal. refusal ≡ None))
-    (same_Some k0 k (sym before ∙ at)) (λ w answered s. so w answered s ∙ none)
 
 -- the writer has this cause
 pub caused : (k : WriterKept) (reader : Endpoint) (code : Code) (cause : Option Code)

@@ -1,5 +1,5 @@
 -- What a reader that meets a writer does to a peer: the roster has the writer, or it is refused.
-use Rattle.std.proofs.Common.{◌≡◌, ◌⊎◌, ℕ, zero, suc, ◌+◌, ◌<◌, ◌&&◌, ◌||◌, Bool, true, false, not, List, [], ◌∷◌, ◌++◌, Option, None, Some, inl, inr, length, slice_get, refl, ap, sym, subst, ◌∙◌, arith, ⊎_elim}
+use Rattle.std.proofs.Common.{◌≡◌, ◌⊎◌, ℕ, zero, suc, ◌+◌, ◌<◌, ◌&&◌, ◌||◌, Bool, true, false, not, List, [], ◌∷◌, ◌++◌, Option, None, Some, length, slice_get, refl, ap, sym, subst, ◌∙◌, arith, ⊎_elim}
 use Rattle.std.specs.Prelude.{if◌then◌else◌}
 use Rattle.std.specs.Option.{option_map_or, option_or}
 use Rattle.std.proofs.lemmas.Option.{same_Some}
@@ -7,21 +7,17 @@ use Rattle.dds_base.specs.declared.code.Code.{Code}
 use Rattle.dds_base.specs.declared.code.Code.TheVariants.{BadParameter, Memory, OutOfResources}
 use Rattle.dds_base.specs.declared.endpoint.Endpoint.{Endpoint}
 use Rattle.dds_base.specs.declared.guid.EntityId.{EntityId}
-use Rattle.dds_base.specs.declared.unfit.UnfitPolicies.{UnfitPolicies}
 use Rattle.dds_base.specs.Checked.{is_bad_lease}
-use Rattle.dds_base.specs.Offers.{is_empty, unfit_policies}
 use Rattle.dds_base.specs.Number.{is_number}
 use Rattle.dds_base.specs.Refusal.{Refuses}
 use Rattle.dds_machine.specs.declared.call.Call.TheVariants as call
 use Rattle.dds_machine.specs.declared.far.FarWriter.{FarWriter}
-use Rattle.dds_machine.specs.declared.reply.Reply.{Reply}
-use Rattle.dds_machine.specs.declared.reply.Reply.TheVariants.{Incompatible, InstanceHandle, Refused}
+use Rattle.dds_machine.specs.declared.reply.Reply.TheVariants.{InstanceHandle, Refused}
 use Rattle.dds_machine.specs.Calls.{as_matched, far_writer_told}
-use Rattle.dds_machine.specs.Matching.{has_too_many, matching_refusal, may_meet_writer, reader_met, reader_missed, telling_refusal, with_match}
+use Rattle.dds_machine.specs.Matching.{has_too_many, matching_refusal, may_meet_writer, reader_met, telling_refusal, with_match}
 use Rattle.dds_machine.specs.Naming.{is_name_among, with_name}
 use Rattle.dds_machine.specs.Numbered.{has_element}
 use Rattle.dds_machine.specs.Part.{Name, Names, Part, Reader, WriterProxy, how_of, is_attached, own_proxies, own_reader, same_endpoint}
-use Rattle.dds_names.specs.Known.{without_new_writer}
 use Rattle.dds_protocol.specs.declared.event.Event.TheVariants as event
 use Rattle.dds_protocol.specs.declared.event.Output.{Output}
 use Rattle.dds_protocol.specs.Claims.{IsWriter}
@@ -33,21 +29,18 @@ use Rattle.dds_ends.specs.declared.matching.WriterName.{WriterName}
 use Rattle.dds_ends.specs.Identity.{IsReaderOf, reader_identity}
 use Rattle.dds_ends.specs.Kept.{ReaderKept}
 use Rattle.dds_ends.specs.MatchedEnds.{AreKnownWriters, IsWriterNamed}
-use Rattle.dds_ends.specs.Meeting.{MeetsWriter, MissesWriter, RefusesWriterSo, has_row, with_row_of, writer_meeting_refusal}
+use Rattle.dds_ends.specs.Meeting.{MeetsWriter, RefusesWriterSo, has_row, with_row_of, writer_meeting_refusal}
 use Rattle.dds_ends.specs.Standing.{ReaderStands}
 use Rattle.dds_ends.proofs.Alike.{last-cases}
 use Rattle.dds_ends.proofs.Lists.{map-get, set_back}
 use Rattle.dds_ends.proofs.MeetingWriters.{handle_once_met}
 use Rattle.dds_core.specs.Identity.{AreRowsOnce, IsPeerOf, KnowsNames, identity_of}
 use Rattle.dds_core.specs.Kept.{PeerKept}
-use Rattle.dds_core.specs.Missing.{MissesWriter as HasMissed}
 use Rattle.dds_core.specs.Ruling.{IsSound}
 use Rattle.dds_core.specs.Somewhere.{MeetsSomewhere, Somewhere}
 use Rattle.dds_core.specs.Standing.{StandsFor}
-use Rattle.rtps_reader.specs.Tracked.{Tracked}
-use Rattle.dds_core.proofs.AnyTests.{nobody_met_then}
-use Rattle.dds_core.proofs.CallSteps.{Follows, no_such, number_is, refused_call, there_is}
-use Rattle.dds_core.proofs.Ends.{own_reader_changed, own_reader_put, readers_with, with_read, with_reader}
+use Rattle.dds_core.proofs.CallSteps.{no_such, number_is, refused_call, there_is}
+use Rattle.dds_core.proofs.Ends.{own_reader_put, with_read, with_reader}
 use Rattle.dds_core.proofs.MetReaders.{FollowsMeeting, as_indexed, named_so, naming, same_named, with_names}
 use Rattle.dds_core.proofs.ReaderSteps.{each_of}
 use Rattle.dds_core.proofs.Taking.{silent}
@@ -391,20 +384,15 @@ refused_by kept i k far code roster peer a refused =
     (refused (own_proxies peer.part (suc i)) (own_reader peer.part (suc i)) (λ w. peer.known.tracked w (suc i))
     (a.stands.readers.each i k a.at)))
 
--- the writer fits the reader, as that is kept
-abbrev pub FitsWriter : ReaderKept → FarWriter → Type 0
-FitsWriter k far = (proxies : List WriterProxy) (r : Reader) (tracked : Endpoint → Tracked)
-    → ReaderStands k proxies r tracked → is_empty (unfit_policies far.offered r.requested) ≡ true
-
 -- the writer is met
 meets : (kept : PeerKept) (i row : ℕ) (k k' : ReaderKept) (names : Names) (far : FarWriter) (handle : ℕ)
     (roster : Roster) (peer : Peer) → AtReader kept i k far roster peer
-    → RefusesWriterSo k far.endpoint (λ refusal. refusal ≡ None) → FitsWriter k far
+    → RefusesWriterSo k far.endpoint (λ refusal. refusal ≡ None)
     → MeetsWriter k (writer_name far) (as_matched far) row k' → handle ≡ row + 1
     → names ≡ record kept.names { writers = with_name kept.names.writers (far_writer_name far) }
     → FollowsMeeting (with_names (with_reader kept i k') names) roster peer
     (event.Call (call.MeetWriter (suc i) far)) (silent (InstanceHandle handle))
-meets kept i row k k' names far handle roster peer a accepted fits m same is_now has = (
+meets kept i row k k' names far handle roster peer a accepted m same is_now has = (
   naming stepped (record peer.part.rtps.names { writers = with_name peer.part.rtps.names.writers (far_writer_name far) }),
   record {
     same_number = refl;
@@ -412,16 +400,13 @@ meets kept i row k k' names far handle roster peer a accepted fits m same is_now
     step = (
       record {
         answers = (
-          fits rows r (λ w. peer.known.tracked w (suc i)) stands,
-          (
-            refusal_if peer.part (suc i) far true (may_be_met kept i k far roster peer a)
-                ∙ accepted rows r (λ w. peer.known.tracked w (suc i)) stands,
-            ap InstanceHandle
-                (same ∙ ap (λ (o : Option ℕ). option_map_or (λ (n : ℕ). n) o 0)
-                (sym (handle_once_met k k' (writer_name far) (as_matched far) row rows r
-                (λ w. peer.known.tracked w (suc i)) m stands))),
-            refl,
-          ),
+          refusal_if peer.part (suc i) far true (may_be_met kept i k far roster peer a)
+              ∙ accepted rows r (λ w. peer.known.tracked w (suc i)) stands,
+          ap InstanceHandle
+              (same ∙ ap (λ (o : Option ℕ). option_map_or (λ (n : ℕ). n) o 0)
+              (sym (handle_once_met k k' (writer_name far) (as_matched far) row rows r
+              (λ w. peer.known.tracked w (suc i)) m stands))),
+          refl,
         );
         rtps = refl;
       },
@@ -486,15 +471,15 @@ meets kept i row k k' names far handle roster peer a accepted fits m same is_now
 
 pub meets_at : (kept : PeerKept) (reader i row : ℕ) (k k' : ReaderKept) (names : Names) (far : FarWriter) (handle : ℕ)
     (roster : Roster) (peer : Peer) → AtReader kept i k far roster peer → reader ≡ i + 1
-    → RefusesWriterSo k far.endpoint (λ refusal. refusal ≡ None) → FitsWriter k far
+    → RefusesWriterSo k far.endpoint (λ refusal. refusal ≡ None)
     → MeetsWriter k (writer_name far) (as_matched far) row k' → handle ≡ row + 1
     → names ≡ record kept.names { writers = with_name kept.names.writers (far_writer_name far) }
     → FollowsMeeting (with_names (with_reader kept i k') names) roster peer
     (event.Call (call.MeetWriter reader far)) (silent (InstanceHandle handle))
-meets_at kept reader i row k k' names far handle roster peer a is accepted fits m same is_now =
+meets_at kept reader i row k k' names far handle roster peer a is accepted m same is_now =
     subst (λ (n : ℕ). FollowsMeeting (with_names (with_reader kept i k') names) roster peer
     (event.Call (call.MeetWriter n far)) (silent (InstanceHandle handle))) (number_is reader i is)
-    (meets kept i row k k' names far handle roster peer a accepted fits m same is_now)
+    (meets kept i row k k' names far handle roster peer a accepted m same is_now)
 
 -- some roster has the writer, once it is met
 pub met_at : (kept now : PeerKept) (reader i : ℕ) (k : ReaderKept) (far : FarWriter) (handle : ℕ) (o : Output)
@@ -537,165 +522,6 @@ meets_not kept reader i k k' names far code roster peer a is refused same back =
     (event.Call (call.MeetWriter reader far)) (silent (Refused code)))
     (sym (set_back kept.readers i k k' a.at same))
     (not_named kept reader i k names far code roster peer a is refused back)
-
--- ---- one that does not fit
-
--- the names that are known with it
-abbrev pub names_with : PeerKept → FarWriter → Names
-names_with kept far = record kept.names { writers = with_name kept.names.writers (far_writer_name far) }
-
-misses : (kept : PeerKept) (i : ℕ) (k k' : ReaderKept) (names : Names) (far : FarWriter) (unfit : UnfitPolicies)
-    (roster : Roster) (peer : Peer) → AtReader kept i k far roster peer
-    → RefusesWriterSo k far.endpoint (λ refusal. refusal ≡ None)
-    → ((proxies : List WriterProxy) (r : Reader) (tracked : Endpoint → Tracked) → ReaderStands k proxies r tracked
-    → unfit ≡ unfit_policies far.offered r.requested)
-    → is_empty unfit ≡ false → MissesWriter k far.endpoint far.offered k' → names ≡ names_with kept far
-    → Follows (with_names (with_reader kept i k') names) roster peer
-    (event.Call (call.MeetWriter (suc i) far)) (silent (Incompatible unfit))
-misses kept i k k' names far unfit roster peer a accepted by_policies some m is_now = (
-  naming stepped now_names,
-  record {
-    same_number = refl;
-    knows = refl;
-    step = (
-      record {
-        answers = (
-          subst (λ (u : UnfitPolicies). is_empty u ≡ false) same some,
-          same,
-          refusal_if peer.part (suc i) far true (may_be_met kept i k far roster peer a)
-              ∙ accepted rows r (λ w. peer.known.tracked w (suc i)) stands,
-          refl,
-        );
-        rtps = refl;
-      },
-      refl,
-    );
-    sent = λ p x among h. absurd (omega (arith, among.1));
-  },
-  own_reader_changed (with_names kept names) i k k' after roster (naming peer now_names) named a.at m.same
-      (m.stands rows r (λ w. peer.known.tracked w (suc i)) stands),
-)
-  where
-    rows : List WriterProxy
-    rows = own_proxies peer.part (suc i)
-
-    r : Reader
-    r = own_reader peer.part (suc i)
-
-    stands : ReaderStands k rows r (λ w. peer.known.tracked w (suc i))
-    stands = a.stands.readers.each i k a.at
-
-    same : unfit ≡ unfit_policies far.offered r.requested
-    same = by_policies rows r (λ w. peer.known.tracked w (suc i)) stands
-
-    after : Reader
-    after = reader_missed r far.endpoint far.offered
-
-    stepped : Peer
-    stepped = record peer { part = record peer.part { dds = readers_with peer.part (suc i) after } }
-
-    now_names : Names
-    now_names = record peer.part.rtps.names { writers = with_name peer.part.rtps.names.writers (far_writer_name far) }
-
-    named : StandsFor (with_names kept names) roster (naming peer now_names)
-    named =
-        named_so kept names roster peer now_names a.stands
-        (ap (λ (ns : Names). record ns { writers = with_name ns.writers (far_writer_name far) }) a.stands.names
-        ∙ sym is_now)
-        (subst (λ (ns : Names). KnowsNames roster peer.number (identity_of kept) ns) (sym is_now)
-        (writer_named_too kept far roster peer a.stands))
-
--- the same by the index of its reader, where the name was added
-pub misses_at : (kept : PeerKept) (reader i : ℕ) (k k' : ReaderKept) (names : Names) (far : FarWriter)
-    (unfit : UnfitPolicies) (roster : Roster) (peer : Peer) → AtReader kept i k far roster peer → reader ≡ i + 1
-    → RefusesWriterSo k far.endpoint (λ refusal. refusal ≡ None)
-    → ((proxies : List WriterProxy) (r : Reader) (tracked : Endpoint → Tracked) → ReaderStands k proxies r tracked
-    → unfit ≡ unfit_policies far.offered r.requested)
-    → is_empty unfit ≡ false → MissesWriter k far.endpoint far.offered k' → names ≡ names_with kept far
-    → Follows (with_names (with_reader kept i k') names) roster peer
-    (event.Call (call.MeetWriter reader far)) (silent (Incompatible unfit))
-misses_at kept reader i k k' names far unfit roster peer a is accepted by_policies some m is_now =
-    subst (λ (n : ℕ). Follows (with_names (with_reader kept i k') names) roster peer
-    (event.Call (call.MeetWriter n far)) (silent (Incompatible unfit))) (number_is reader i is)
-    (misses kept i k k' names far unfit roster peer a accepted by_policies some m is_now)
-
--- where the answer is that it does not fit, nobody is met
-pub nobody_met_unfit : (kept : PeerKept) (reader : ℕ) (far : FarWriter) (unfit : UnfitPolicies) (reply : Reply)
-    → reply ≡ Incompatible unfit → MeetsSomewhere kept (event.Call (call.MeetWriter reader far)) reply
-nobody_met_unfit kept reader far unfit reply is =
-    subst (λ (x : Reply). MeetsSomewhere kept (event.Call (call.MeetWriter reader far)) x) (sym is)
-    (λ roster peer s sound. record {
-      roster = roster;
-      alike = peer;
-      number = refl;
-      part = refl;
-      stands = s;
-      sound = sound;
-      has = tt;
-    })
-
--- the reader is told of it, or no memory is left and the name goes
-pub misses_then : (kept : PeerKept) (names : Names) (reader i : ℕ) (k : ReaderKept) (far : FarWriter) (is_new : Bool)
-    (unfit : UnfitPolicies) (roster : Roster) (peer : Peer) (output : Output) (new : PeerKept)
-    → AtReader kept i k far roster peer → reader ≡ i + 1
-    → RefusesWriterSo k far.endpoint (λ refusal. refusal ≡ None)
-    → ((proxies : List WriterProxy) (r : Reader) (tracked : Endpoint → Tracked) → ReaderStands k proxies r tracked
-    → unfit ≡ unfit_policies far.offered r.requested)
-    → is_empty unfit ≡ false → names ≡ names_with kept far → without_new_writer is_new names ≡ kept.names
-    → HasMissed (with_names kept names) i far unfit is_new output new
-    → FollowsMeeting new roster peer (event.Call (call.MeetWriter reader far)) output
-misses_then kept names reader i k far is_new unfit roster peer output new a is accepted by_policies some is_now back did
-    has = by did
-  where
-    by : HasMissed (with_names kept names) i far unfit is_new output new
-        → Follows new roster peer (event.Call (call.MeetWriter reader far)) output
-    by (inl m) =
-        let missed : MissesWriter k far.endpoint far.offered m.after =
-        subst (λ (x : ReaderKept). MissesWriter x far.endpoint far.offered m.after)
-        (same_Some m.reader k (sym m.at ∙ a.at)) m.misses in
-        subst (λ (x : PeerKept). Follows x roster peer (event.Call (call.MeetWriter reader far)) output) (sym m.new_is)
-        (subst (λ (o : Output). Follows (with_names (with_reader kept i m.after) names) roster peer
-        (event.Call (call.MeetWriter reader far)) o) (sym m.says)
-        (misses_at kept reader i k m.after names far unfit roster peer a is accepted by_policies some missed is_now))
-    by (inr t) =
-        subst (λ (x : PeerKept). Follows x roster peer (event.Call (call.MeetWriter reader far)) output) (sym t.new_is)
-        (subst (λ (o : Output). Follows (with_names kept (without_new_writer is_new names)) roster peer
-        (event.Call (call.MeetWriter reader far)) o) (sym t.says)
-        (not_named kept reader i k (without_new_writer is_new names) far Memory roster peer a is
-        (λ proxies r tracked s. subst (λ (o : Option Code). Refuses o Memory) (sym (accepted proxies r tracked s)) refl)
-        back has))
-
--- it is met by nobody then
-pub nobody_met_missed : (kept old new : PeerKept) (reader i : ℕ) (far : FarWriter) (is_new : Bool)
-    (unfit : UnfitPolicies) (output : Output) → HasMissed old i far unfit is_new output new
-    → MeetsSomewhere kept (event.Call (call.MeetWriter reader far)) output.reply
-nobody_met_missed kept old new reader i far is_new unfit output did = by did
-  where
-    by : HasMissed old i far unfit is_new output new
-        → MeetsSomewhere kept (event.Call (call.MeetWriter reader far)) output.reply
-    by (inl m) = nobody_met_unfit kept reader far unfit output.reply (ap (λ (o : Output). o.reply) m.says)
-    by (inr t) =
-        nobody_met_then kept (event.Call (call.MeetWriter reader far)) output.reply Memory
-        (ap (λ (o : Output). o.reply) t.says)
-
--- the reader of the index is the same that fits ..
-pub fits_again : (readers : List ReaderKept) (i : ℕ) (far : FarWriter) {k0 k : ReaderKept} {unfit : UnfitPolicies}
-    → slice_get readers i ≡ Some k0 → slice_get readers i ≡ Some k
-    → ((proxies : List WriterProxy) (r : Reader) (tracked : Endpoint → Tracked) → ReaderStands k0 proxies r tracked
-    → unfit ≡ unfit_policies far.offered r.requested)
-    → is_empty unfit ≡ true → FitsWriter k far
-fits_again readers i far {k0} {k} before at so none =
-    subst (λ (x : ReaderKept). FitsWriter x far) (same_Some k0 k (sym before ∙ at))
-    (λ proxies r tracked s. subst (λ (u : UnfitPolicies). is_empty u ≡ true) (so proxies r tracked s) none)
-
--- .. and that has no cause
-pub has_no_cause : (readers : List ReaderKept) (i : ℕ) (far : FarWriter) {k0 k : ReaderKept} {cause : Option Code}
-    → slice_get readers i ≡ Some k0 → slice_get readers i ≡ Some k
-    → RefusesWriterSo k0 far.endpoint (λ refusal. refusal ≡ cause) → cause ≡ None
-    → RefusesWriterSo k far.endpoint (λ refusal. refusal ≡ None)
-has_no_cause readers i far {k0} {k} before at so none =
-    subst (λ (x : ReaderKept). RefusesWriterSo x far.endpoint (λ refusal. refusal ≡ None))
-    (same_Some k0 k (sym before ∙ at)) (λ proxies r tracked s. so proxies r tracked s ∙ none)
 
 -- the reader has this cause
 pub caused : (k : ReaderKept) (writer : Endpoint) (code : Code) (cause : Option Code)

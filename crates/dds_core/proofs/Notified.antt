@@ -8,7 +8,7 @@ use Rattle.dds_base.specs.declared.entity.Entity.{Entity}
 use Rattle.dds_base.specs.declared.entity.Entity.TheVariants as entity
 use Rattle.dds_notices.specs.declared.notice.Notice.{Notice}
 use Rattle.dds_notices.specs.declared.notice.Status.{Status}
-use Rattle.dds_notices.specs.declared.notice.Status.TheVariants.{OfferedIncompatibleQos, RequestedIncompatibleQos, SampleLost, DataAvailable, LivelinessLost, LivelinessChanged, PublicationMatched, SubscriptionMatched}
+use Rattle.dds_notices.specs.declared.notice.Status.TheVariants.{SampleLost, DataAvailable, LivelinessLost, LivelinessChanged, PublicationMatched, SubscriptionMatched}
 use Rattle.dds_notices.specs.Listeners.{ByEntity, Places, Slotted, StandsFor as SlotsStandFor, after_notice, taker_of}
 use Rattle.dds_machine.specs.Noticing.{each_told, looked_at, told, told_of}
 use Rattle.dds_machine.specs.Part.{Part, Reader, Writer, WriterProxy, no_reader, no_writer, own_proxies, own_reader, own_writer}
@@ -51,8 +51,6 @@ sees_part : (part : Part) (i : ℕ) (status : Status)
       dds = readers_with part (suc i) (seen_at (own_proxies part (suc i)) (own_reader part (suc i)) status);
     }
     ≡ looked_at part (entity.Reader (suc i)) status
-sees_part part i (OfferedIncompatibleQos values) = refl
-sees_part part i (RequestedIncompatibleQos values) = refl
 sees_part part i (SampleLost values) = refl
 sees_part part i DataAvailable = refl
 sees_part part i (LivelinessLost values) = refl
@@ -222,7 +220,7 @@ marks_peer kept now writers readers view of_writers of_readers roster peer given
       subst (λ (w : Writer). IsWriterMarkOf mark w)
       (sym (past_end peer.part.rtps.writers i no_writer (omega (arith, count, le))))
       (subst (λ (m : WriterMark). IsWriterMarkOf m no_writer) (sym ((of_writers i mark at).1 le))
-      (record { losses = refl; matched = refl; misfits = refl })))
+      (record { losses = refl; matched = refl })))
       (cases_lt i (length kept.writers));
   readers = λ i mark at.
       ⊎_elim
@@ -240,7 +238,7 @@ marks_peer kept now writers readers view of_writers of_readers roster peer given
       (subst (λ (r : Reader). IsMarkOf mark [] r)
       (sym (past_end peer.part.dds.readers i no_reader (omega (arith, count, le))))
       (subst (λ (m : ReaderMark). IsMarkOf m [] no_reader) (sym ((of_readers i mark at).1 le))
-      (record { happened = refl; here = refl; misfits = refl }))))
+      (record { happened = refl; here = refl }))))
       (cases_lt i (length kept.readers));
 }
   where

@@ -12,17 +12,15 @@ use Rattle.dds_base.specs.Bounds.{greatest_value}
 use Rattle.dds_base.specs.declared.status.MatchedStatus.{MatchedStatus}
 use Rattle.dds_base.specs.Refusal.{Refuses}
 use Rattle.dds_machine.specs.declared.call.Call.TheVariants as call
-use Rattle.dds_machine.specs.declared.reply.Reply.TheVariants.{Done, IncompatibleQos, Matched, Refused}
-use Rattle.dds_machine.specs.Fitting.{misfit_status}
-use Rattle.dds_machine.specs.Matching.{joined, knows_reliable, left, publication_matched, writer_looked_at, writer_saw_misfits}
-use Rattle.dds_notices.specs.declared.incompatible.IncompatibleQosStatus.{IncompatibleQosStatus}
+use Rattle.dds_machine.specs.declared.reply.Reply.TheVariants.{Done, Matched, Refused}
+use Rattle.dds_machine.specs.Matching.{joined, knows_reliable, left, publication_matched, writer_looked_at}
 use Rattle.dds_machine.specs.Part.{Writer, at_writer, own_writer, same_endpoint, writer_changes}
 use Rattle.dds_machine.specs.Refusals.{writer_refusal}
 use Rattle.dds_protocol.specs.declared.event.Event.TheVariants as event
 use Rattle.dds_protocol.specs.Peer.{Peer, known_once_told}
 use Rattle.dds_protocol.specs.Contact.{Contact}
 use Rattle.dds_protocol.specs.Protocol.{Known}
-use Rattle.dds_ends.specs.Coming.{Joins, Leaves, LooksAtMatches, LooksAtMisfits, RefusesSo, joining_refusal, leaving_refusal, matched_anew}
+use Rattle.dds_ends.specs.Coming.{Joins, Leaves, LooksAtMatches, RefusesSo, joining_refusal, leaving_refusal, matched_anew}
 use Rattle.dds_ends.specs.declared.matching.TopicName.{TopicName}
 use Rattle.dds_ends.specs.Identity.{IsWriterOf, WriterIdentity, writer_identity}
 use Rattle.dds_ends.specs.MatchedEnds.{AreKnownReaders}
@@ -314,40 +312,3 @@ pub matches_looked_at : (kept : PeerKept) (writer i : ℕ) (k k' : WriterKept) (
 matches_looked_at kept writer i k k' status roster peer s is at lt tells look =
     subst (λ (n : ℕ). Follows (with_writer kept i k') roster peer (event.Call (call.GetPublicationMatched n))
     (silent (Matched status))) (number_is writer i is) (looks kept i k k' status roster peer s at lt tells look)
-
--- the same of its misfits
-pub misfits_looked_at : (kept : PeerKept) (writer i : ℕ) (k k' : WriterKept) (status : IncompatibleQosStatus)
-    (roster : Roster) (peer : Peer) → StandsFor kept roster peer → writer ≡ i + 1 → slice_get kept.writers i ≡ Some k
-    → i < length kept.writers
-    → ((w : Writer) (answered : Endpoint → Contact) → WriterStands k w answered → status ≡ misfit_status w.misfits)
-    → LooksAtMisfits k k'
-    → Follows (with_writer kept i k') roster peer (event.Call (call.GetOfferedIncompatibleQos writer))
-    (silent (IncompatibleQos status))
-misfits_looked_at kept writer i k k' status roster peer s is at lt tells look =
-    let count = s.writers.count in
-    let w : Writer = own_writer peer.part (suc i) in
-    let stands = s.writers.each i k at in
-    let known : writer_refusal peer.part (suc i) ≡ None =
-    ap (λ (b : Bool). if not b then Some BadParameter else None)
-    (there_is peer.part.rtps.writers i (omega (arith, lt, count))) in
-    subst (λ (n : ℕ). Follows (with_writer kept i k') roster peer (event.Call (call.GetOfferedIncompatibleQos n))
-    (silent (IncompatibleQos status))) (number_is writer i is) (
-      record peer { part = at_writer peer.part (suc i) (writer_saw_misfits w) },
-      record {
-        same_number = refl;
-        knows = refl;
-        step = (
-          record {
-            answers =
-                answered_as _ (IncompatibleQos (misfit_status w.misfits)) peer.part.dds peer.part _ known
-                (ap IncompatibleQos (tells w (peer.known.answered (suc i)) stands));
-            rtps = refl;
-          },
-          refl,
-        );
-        sent = λ p x m h. absurd (omega (arith, m.1));
-      },
-      writer_put roster peer kept s i k k' at look.same (writer_saw_misfits w) peer.known.answered
-          (look.stands w (peer.known.answered (suc i)) stands) (λ j apart r. refl)
-          (tellable_put peer.part (suc i) (writer_saw_misfits w) s.tellable refl),
-    )

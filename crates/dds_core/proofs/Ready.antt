@@ -25,7 +25,6 @@ use Rattle.dds_ends.specs.declared.reader_told.Told.{Told}
 use Rattle.dds_ends.specs.declared.reader_told.Told.TheVariants as told
 use Rattle.dds_ends.specs.declared.match_counts.MatchCounts.{MatchCounts}
 use Rattle.dds_ends.specs.MatchCounts.{CountsFor}
-use Rattle.dds_ends.specs.Misfits.{IsTold, MisfitsKept}
 use Rattle.dds_ends.specs.Kept.{ReaderKept}
 use Rattle.dds_core.specs.Kept.{PeerKept}
 use Rattle.dds_ends.specs.Identity.{ReaderIdentity, reader_identity, reliable_in, writer_identity}
@@ -55,7 +54,6 @@ alike_self k = record {
   seen = refl;
   matches = refl;
   here = refl;
-  misfits = refl;
   holds = λ h s. s;
 }
 
@@ -80,7 +78,6 @@ alike_on a b c x y =
           ∙ x.seen;
       matches = y.matches ∙ x.matches;
       here = y.here ∙ x.here;
-      misfits = y.misfits ∙ x.misfits;
       holds = λ h s. y.holds h (x.holds h s);
     }
 
@@ -261,7 +258,6 @@ alike_stands a b proxies r tracked h s = record {
       ∙ ap (λ (x : AttachmentOf). stood_as x) (sym (h.how k));
   counts = subst (λ (m : MatchCounts). CountsFor m r.matches) (sym h.matches) s.counts;
   here_is = h.here ∙ s.here_is;
-  misfits = subst (λ (m : MisfitsKept). IsTold m r.requested r.misfits) (sym h.misfits) s.misfits;
 }
 
 same_identities : (old new : List ReaderKept) → AreAlike old new → map reader_identity new ≡ map reader_identity old

@@ -372,7 +372,7 @@ pub row_took : (old : PeerKept) (index row : ℕ) (a : AckNackBody) (k now k' : 
     (moves : List Move) (sent : Announced) (new : PeerKept) (after : List Move) (gone : Announced) (own : GuidPrefix)
     (acknowledged : Option ℕ) (strange : Bool) (reader : Endpoint) → now ≡ k
     → slice_get k.readers row ≡ Some name → writer_identity k' ≡ writer_identity now → k'.matches ≡ now.matches
-    → k'.misfits ≡ now.misfits → own ≡ old.prefix
+    → own ≡ old.prefix
     → TakesAckNack now own row a sent k' acknowledged gone
     → ((s : WriterState) → RtpsStandsFor now.writer s → strange ≡ is_beyond s a.reader_sn_state.base)
     → ((n : ReaderName) → slice_get now.readers row ≡ Some n → reader ≡ n.reader)
@@ -380,7 +380,7 @@ pub row_took : (old : PeerKept) (index row : ℕ) (a : AckNackBody) (k now k' : 
     → after ≡ moves ++ acknack_moves (index + 1) reader acknowledged strange
     → RowTook old index row a k name moves sent new after gone
 row_took old index row a k now k' name moves sent new after gone own acknowledged strange reader is at_name same matches
-    misfits prefix takes strange_is named new_is after_is =
+    prefix takes strange_is named new_is after_is =
     let at_now : slice_get now.readers row ≡ Some name =
     ap (λ (x : WriterKept). slice_get x.readers row) is ∙ at_name in
     record {
@@ -392,7 +392,6 @@ row_took old index row a k now k' name moves sent new after gone own acknowledge
       writer = k';
       same = same ∙ ap writer_identity is;
       matches = matches ∙ ap (λ (x : WriterKept). x.matches) is;
-      misfits = misfits ∙ ap (λ (x : WriterKept). x.misfits) is;
       answers =
           subst (λ (x : WriterKept). TakesAckNack x old.prefix row a sent k' acknowledged gone) is
           (subst (λ (p : GuidPrefix). TakesAckNack now p row a sent k' acknowledged gone) prefix takes);

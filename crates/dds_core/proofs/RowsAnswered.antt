@@ -37,7 +37,6 @@ use Rattle.dds_ends.specs.Kept.{WriterKept}
 use Rattle.dds_core.specs.Kept.{PeerKept}
 use Rattle.dds_ends.specs.Identity.{IsWriterOf, WriterIdentity, writer_identity}
 use Rattle.dds_ends.specs.MatchCounts.{CountsFor}
-use Rattle.dds_ends.specs.Misfits.{IsTold, MisfitsKept}
 use Rattle.dds_ends.specs.MatchedEnds.{AreRows, IsNameOf, is_named, last_count, readers_of, topic_reader}
 use Rattle.dds_core.specs.Receiving.{with_state, NeedsMemory}
 use Rattle.dds_ends.specs.Standing.{AreQuiet, WriterStands, state_of}
@@ -253,13 +252,6 @@ matches_again : (turn : Turn) → CountsFor turn.t.writer.matches (writer_of tur
 matches_again turn =
     subst (λ (x : MatchCounts). CountsFor x (writer_of turn.c).matches) (sym turn.t.matches) (stood turn.c).matches
 
--- so are its misfits
-misfits_again : (turn : Turn)
-    → IsTold turn.t.writer.misfits (writer_of turn.c).offered (writer_of turn.c).misfits
-misfits_again turn =
-    subst (λ (x : MisfitsKept). IsTold x (writer_of turn.c).offered (writer_of turn.c).misfits) (sym turn.t.misfits)
-    (stood turn.c).misfits
-
 -- one that is taken acknowledges no more than was made
 within_if_taken : (later : Bool) (base next : ℕ) → (later && nat_le base next) ≡ true → nat_lt next base ≡ false
 within_if_taken true base next is =
@@ -407,7 +399,6 @@ row_applied turn from is = record {
           (λ e. not_named turn.c.k.readers turn.c.row turn.c.name reader turn.c.at_name (sym e) none))
           ∙ (stood turn.c).quiet reader there none);
       matches = matches_again turn;
-      misfits = misfits_again turn;
     }
       where
         most : 1 ≤ max (row_of turn).proxy.acknowledged (base_of turn)
@@ -582,7 +573,6 @@ row_ignored turn from is = record {
           subst (λ (x : WriterIdentity). AreQuiet x.matched x.readers (answered_of turn.c)) (sym turn.t.same)
           (stood turn.c).quiet;
       matches = matches_again turn;
-      misfits = misfits_again turn;
     }
 
 -- a reader that the ACKNACK is from is answered

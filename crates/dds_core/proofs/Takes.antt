@@ -29,7 +29,6 @@ use Rattle.dds_machine.proofs.Tables.{numbered-same, begun-cases, begun-hits, pl
 use Rattle.dds_ends.specs.declared.matching.WriterName.{WriterName}
 use Rattle.dds_ends.specs.declared.match_counts.MatchCounts.{MatchCounts}
 use Rattle.dds_ends.specs.MatchCounts.{CountsFor}
-use Rattle.dds_ends.specs.Misfits.{IsTold, MisfitsKept}
 use Rattle.dds_ends.specs.Kept.{ReaderKept}
 use Rattle.dds_core.specs.Kept.{PeerKept}
 use Rattle.dds_ends.specs.Identity.{reader_identity}
@@ -162,9 +161,6 @@ stage_ends c k' how t rows happened s g a =
       hows = λ w j f. by_how w j f (pair_or_not w (suc c.i) c.writer (suc c.i));
       counts = subst (λ (m : MatchCounts). CountsFor m (reader_of c).matches) (sym a.same.matches) (stood c).counts;
       here_is = a.same.here ∙ ((stood c).here_is ∙ sym g.matched);
-      misfits =
-          subst (λ (m : MisfitsKept). IsTold m (reader_of c).requested (reader_of c).misfits) (sym a.same.misfits)
-          (stood c).misfits;
     }))
   where
     identity : reader_identity k' ≡ reader_identity c.k

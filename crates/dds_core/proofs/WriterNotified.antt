@@ -10,7 +10,7 @@ use Rattle.dds_base.specs.declared.status.MatchedStatus.{MatchedStatus}
 use Rattle.dds_base.specs.Written.{liveliness_lost_status}
 use Rattle.dds_notices.specs.declared.notice.Notice.{Notice}
 use Rattle.dds_notices.specs.declared.notice.Status.{Status}
-use Rattle.dds_notices.specs.declared.notice.Status.TheVariants.{LivelinessLost, OfferedIncompatibleQos, PublicationMatched}
+use Rattle.dds_notices.specs.declared.notice.Status.TheVariants.{LivelinessLost, PublicationMatched}
 use Rattle.dds_notices.specs.Listeners.{ByEntity, Places, Slotted, StandsFor as SlotsStandFor, after_notice, taker_of}
 use Rattle.dds_machine.specs.Matching.{publication_matched}
 use Rattle.dds_machine.specs.Noticing.{looked_at, loss_raised, losses_of, publication_raised, told}
@@ -31,13 +31,11 @@ use Rattle.dds_core.proofs.Tellable.{tellable_put}
 -- a look at a status of a writer changes that writer alone
 looked_is : (part : Part) (n : ℕ) (status : Status) → looked_at part (entity.Writer n) status
     ≡ at_writer part n (writer_seen_by (own_writer part n) status)
-looked_is part n (OfferedIncompatibleQos values) = refl
 looked_is part n (PublicationMatched values) = refl
 looked_is part n other = refl
 
 -- and none of its changes
 seen_changes : (w : Writer) (status : Status) → writer_changes (writer_seen_by w status) ≡ writer_changes w
-seen_changes w (OfferedIncompatibleQos values) = refl
 seen_changes w (PublicationMatched values) = refl
 seen_changes w other = refl
 

@@ -57,7 +57,6 @@ pub record RowTook (old : PeerKept) (index row : ℕ) (a : AckNackBody) (k : Wri
   pub writer : WriterKept
   pub same : writer_identity writer ≡ writer_identity k
   pub matches : writer.matches ≡ k.matches
-  pub misfits : writer.misfits ≡ k.misfits
   pub answers : TakesAckNack k old.prefix row a sent writer acknowledged gone
   pub new_is : new ≡ record old { writers = set old.writers index writer }
   pub after_is : after ≡ moves ++ acknack_moves (index + 1) name.reader acknowledged strange

@@ -9,7 +9,6 @@ pub mod Opening
 pub mod OpeningEnds
 pub mod Sending
 pub mod Making
-pub mod Missing
 pub mod Readiness
 pub mod Receiving
 pub mod Resuming

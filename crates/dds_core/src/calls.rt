@@ -121,10 +121,6 @@ impl Peer {
                 greeted,
             } => self.meet_reader(writer, far, greeted),
             Call::MeetWriter { reader, far } => self.meet_writer(reader, far),
-            Call::GetOfferedIncompatibleQos { writer } => self.get_offered_incompatible_qos(writer),
-            Call::GetRequestedIncompatibleQos { reader } => {
-                self.get_requested_incompatible_qos(reader)
-            }
         }
     }
 

@@ -1,20 +1,17 @@
 //! A peer's writer is told of readers that come and go, and says how many it is matched with.
 //!
 //! RTPS 2.5, 8.4.7.4 (StatefulWriter, matched_reader_add, matched_reader_remove); DDS 1.4, 2.2.2.4
-//! (get_publication_matched_status, get_offered_incompatible_qos_status), 2.2.3 (supported QoS).
+//! (get_publication_matched_status).
 
-ghost use Rattle.std.specs.Prelude.{◌<◌, length};
 ghost use Rattle.dds_machine.specs.declared.call.Call.TheVariants as call;
 ghost use Rattle.dds_protocol.specs.declared.event.Event.TheVariants as event;
 ghost use Rattle.dds_conditions.specs.NoFilters.{no_filters};
 ghost use Rattle.dds_core.specs.Stepping.{Steps, StepsMeeting};
-ghost use Rattle.dds_core.specs.Missing.{MissesReader};
 ghost use Rattle.dds_core.specs.Sending.{SendsNothing};
 ghost use Rattle.dds_ends.specs.Twins.{IsPlain};
 
 use crate::peer::Peer;
-use bitflags::Flags;
-use dds_base::{Code, Endpoint, UnfitPolicies, index_of};
+use dds_base::{Code, Endpoint, index_of};
 use dds_ends::{ReaderName, answered};
 use dds_machine::{FarReader, Reply};
 use dds_names::NamedEnd;
@@ -63,39 +60,12 @@ impl Peer {
             Ok(is_new) => is_new,
             Err(code) => return self.refused(code),
         };
-        let unfit = self.writers[index].unfit(&far.requested);
-        if !unfit.is_empty() {
-            return self.miss_reader(index, far, unfit, is_new);
-        }
         let name = ReaderName {
             reader: far.endpoint,
             guid: far.guid,
         };
         match self.writers[index].meet(name, is_reliable, greeted) {
             Ok(()) => answered(self.alloc, Reply::Done),
-            Err(code) => {
-                self.names.take_back_reader(is_new);
-                self.refused(code)
-            }
-        }
-    }
-
-    /// The writer of this index is told of a reader that does not fit, by these policies, and whose name was taken. Where no
-    /// memory is left at the writer, the name goes too.
-    fn miss_reader(
-        &mut self,
-        index: usize,
-        far: FarReader,
-        unfit: UnfitPolicies,
-        is_new: bool,
-    ) -> Output
-        requires within { index < length self.old.writers }
-        ensures missed { MissesReader self.old index far unfit is_new result self.new }
-        ensures sends { SendsNothing result }
-        ensures plain { IsPlain result.reply }
-    {
-        match self.writers[index].miss(far.endpoint, far.requested) {
-            Ok(()) => answered(self.alloc, Reply::Incompatible(unfit)),
             Err(code) => {
                 self.names.take_back_reader(is_new);
                 self.refused(code)
@@ -129,18 +99,5 @@ impl Peer {
         };
         let status = self.writers[index].get_publication_matched();
         answered(self.alloc, Reply::Matched(status))
-    }
-
-    pub(crate) fn get_offered_incompatible_qos(&mut self, writer: u8) -> Output
-        ensures step { Steps self.old
-            (event.Call (call.GetOfferedIncompatibleQos writer)) result self.new }
-        ensures sends { SendsNothing result }
-        ensures plain { IsPlain result.reply }
-    {
-        let Some(index) = index_of(writer, self.writers.len()) else {
-            return self.refused(Code::BadParameter);
-        };
-        let status = self.writers[index].get_offered_incompatible_qos();
-        answered(self.alloc, Reply::IncompatibleQos(status))
     }
 }

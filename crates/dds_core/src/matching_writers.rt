@@ -1,40 +1,25 @@
 //! The calls that tell a peer's reader which writers it is matched with, and that ask for it.
 //!
 //! RTPS 2.5, 8.4.10.3 (StatefulReader, matched_writer_add, matched_writer_remove); DDS 1.4, 2.2.2.5
-//! (get_subscription_matched_status, get_requested_incompatible_qos_status), 2.2.3 (supported QoS).
+//! (get_subscription_matched_status).
 
-ghost use Rattle.std.specs.Prelude.{◌≡◌, ◌<◌, length};
+ghost use Rattle.std.specs.Prelude.{◌≡◌};
 ghost use Rattle.dds_machine.specs.declared.call.Call.TheVariants as call;
 ghost use Rattle.dds_protocol.specs.declared.event.Event.TheVariants as event;
 ghost use Rattle.dds_conditions.specs.NoFilters.{no_filters};
 ghost use Rattle.dds_core.specs.Stepping.{Steps, StepsMeeting};
-ghost use Rattle.dds_core.specs.Missing.{IsUnknownCause, MissesWriter};
 ghost use Rattle.dds_core.specs.Sending.{SendsNothing};
 ghost use Rattle.dds_ends.specs.Twins.{IsPlain};
 
 use crate::far_ends::{as_matched, is_bad_lease};
 use crate::peer::Peer;
-use bitflags::Flags;
-use dds_base::{Code, Endpoint, Handle, UnfitPolicies, index_of};
+use dds_base::{Code, Endpoint, Handle, index_of};
 use dds_ends::{WriterName, answered, writer_row_among};
 use dds_machine::{FarWriter, Reply};
 use dds_names::NamedEnd;
 use dds_protocol::Output;
 
 impl Peer {
-    /// Why the reader of this index is not told of a match with this writer, which it does not know: that one does not fit,
-    /// or is none of its topic.
-    fn unknown_writer_cause(&self, index: usize, writer: Endpoint) -> Code
-        requires within { index < length self.now.readers }
-        ensures cause { IsUnknownCause self.now index writer result }
-    {
-        if self.readers[index].is_misfit(writer) {
-            Code::PreconditionNotMet
-        } else {
-            Code::BadParameter
-        }
-    }
-
     pub(crate) fn match_writer(&mut self, reader: u8, writer: Endpoint) -> Output
         ensures step { Steps self.old
             (event.Call (call.MatchWriter reader writer)) result self.new }
@@ -45,13 +30,9 @@ impl Peer {
             return self.refused(Code::BadParameter);
         };
         let Some(row) = writer_row_among(self.readers[index].writers(), writer) else {
-            let code = self.unknown_writer_cause(index, writer);
-            return self.refused(code);
+            return self.refused(Code::BadParameter);
         };
         if self.readers[index].is_attached(row) {
-            return self.refused(Code::PreconditionNotMet);
-        }
-        if self.readers[index].is_misfit(writer) {
             return self.refused(Code::PreconditionNotMet);
         }
         self.readers[index].attach(row);
@@ -91,10 +72,6 @@ impl Peer {
             Ok(is_new) => is_new,
             Err(code) => return self.refused(code),
         };
-        let unfit = self.readers[index].unfit(&far.offered);
-        if !unfit.is_empty() {
-            return self.miss_writer(index, far, unfit, is_new);
-        }
         let name = WriterName {
             writer: far.endpoint,
             guid: far.guid,
@@ -104,29 +81,6 @@ impl Peer {
                 let handle = Handle::new(row as u64 + 1);
                 answered(self.alloc, Reply::InstanceHandle(handle))
             }
-            Err(code) => {
-                self.names.take_back_writer(is_new);
-                self.refused(code)
-            }
-        }
-    }
-
-    /// The reader of this index is told of a writer that does not fit, by these policies, and whose name was taken. Where no
-    /// memory is left at the reader, the name goes too.
-    fn miss_writer(
-        &mut self,
-        index: usize,
-        far: FarWriter,
-        unfit: UnfitPolicies,
-        is_new: bool,
-    ) -> Output
-        requires within { index < length self.old.readers }
-        ensures missed { MissesWriter self.old index far unfit is_new result self.new }
-        ensures sends { SendsNothing result }
-        ensures plain { IsPlain result.reply }
-    {
-        match self.readers[index].miss(far.endpoint, far.offered) {
-            Ok(()) => answered(self.alloc, Reply::Incompatible(unfit)),
             Err(code) => {
                 self.names.take_back_writer(is_new);
                 self.refused(code)
@@ -144,8 +98,7 @@ impl Peer {
             return self.refused(Code::BadParameter);
         };
         let Some(row) = writer_row_among(self.readers[index].writers(), writer) else {
-            let code = self.unknown_writer_cause(index, writer);
-            return self.refused(code);
+            return self.refused(Code::BadParameter);
         };
         if !self.readers[index].is_attached(row) {
             return self.refused(Code::PreconditionNotMet);
@@ -167,18 +120,5 @@ impl Peer {
         };
         let status = self.readers[index].get_subscription_matched();
         answered(self.alloc, Reply::Matched(status))
-    }
-
-    pub(crate) fn get_requested_incompatible_qos(&mut self, reader: u8) -> Output
-        ensures step { Steps self.old
-            (event.Call (call.GetRequestedIncompatibleQos reader)) result self.new }
-        ensures sends { SendsNothing result }
-        ensures plain { IsPlain result.reply }
-    {
-        let Some(index) = index_of(reader, self.readers.len()) else {
-            return self.refused(Code::BadParameter);
-        };
-        let status = self.readers[index].get_requested_incompatible_qos();
-        answered(self.alloc, Reply::IncompatibleQos(status))
     }
 }

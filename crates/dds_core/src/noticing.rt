@@ -58,8 +58,6 @@ impl Peer {
         ensures readers { length self.new.readers ≡ length self.old.readers }
     {
         let index = usize::from(number) - 1;
-        let unfit = self.readers[index].requested_raised(mark);
-        self.tell_of_reader(slots, number, unfit);
         let lost = self.readers[index].lost_raised(mark);
         self.tell_of_reader(slots, number, lost);
         let data = self.readers[index].data_raised(mark);
@@ -104,8 +102,6 @@ impl Peer {
         ensures readers { length self.new.readers ≡ length self.old.readers }
     {
         let index = usize::from(number) - 1;
-        let unfit = self.writers[index].offered_raised(mark);
-        self.tell_of_writer(slots, number, unfit);
         let lost = self.writers[index].loss_raised(mark);
         self.tell_of_writer(slots, number, lost);
         let matched = self.writers[index].publication_raised(mark);

@@ -42,11 +42,3 @@ all_next P xs n x lt is here before k y less at = by (cases_eq k n)
         (same_Some x y (sym (slice_get-get_or xs n x lt ∙ ap Some (sym is)) ∙ subst (λ (m : ℕ). slice_get xs m ≡ Some y) same at))
         here
     by (inr other) = before k y (omega (arith, less, other)) at
-
--- what holds of all below holds of one more
-pub up_to : (P : ℕ → Type 0) (n : ℕ) → P n → ((k : ℕ) → k < n → P k) → (k : ℕ) → k < n + 1 → P k
-up_to P n here below k less = by (cases_eq k n)
-  where
-    by : (k ≡ n) ⊎ (k ≡ n → ⊥) → P k
-    by (inl same) = subst P (sym same) here
-    by (inr other) = below k (omega (arith, less, other))

@@ -3,11 +3,10 @@ use Rattle.std.proofs.Common.{◌≡◌, ◌<◌, ◌+◌, ℕ, List, add-one, g
 use Rattle.std.proofs.lemmas.List.{take_more}
 use Rattle.dds_protocol.specs.declared.event.Packet.{Packet}
 use Rattle.rtps_discovery.specs.declared.row.Row.{Row}
-use Rattle.rtps_fragments.specs.declared.nack_frag.ChangeId.{ChangeId}
 use Rattle.dds_exchange.specs.States.{State as Exchange}
 use Rattle.dds_domain.specs.Participants.{GoesOne, Runs, State as Participant, more}
-use Rattle.dds_domain.specs.Sharings.{Asks, AsksAll, ComesSo, Delivers, DeliversAll, Meetings, MeetsOne, SendsAll, SendsOut, State, TakesIt}
-use Rattle.dds_domain.specs.Sharings.{asked_more, came_more, delivered_more, met_more, sent_more}
+use Rattle.dds_domain.specs.Sharings.{ComesSo, Delivers, DeliversAll, Meetings, MeetsOne, SendsAll, SendsOut, State, TakesIt}
+use Rattle.dds_domain.specs.Sharings.{came_more, delivered_more, met_more, sent_more}
 use Rattle.dds_domain.specs.Turns.{State as Turn}
 
 -- one packet more goes out
@@ -27,15 +26,6 @@ delivers_next rows messages i d s t r u q v lt at so_far step =
     subst (λ (all : List (List ℕ)). DeliversAll rows all s t q v) (sym (take_more messages i d lt))
     (delivered_more rows (take i messages) (get_or messages i d) s t r u q v so_far
     (subst (λ (m : List ℕ). Delivers rows m r u q v) at step))
-
--- one change more is asked for
-pub asks_next : (rows : List Row) (changes : List ChangeId) (i : ℕ) (d : ChangeId) (s : State) (t : Turn) (r : State) (u : Turn)
-    (q : State) (v : Turn) → i < length changes → d ≡ get_or changes i d → AsksAll rows (take i changes) s t r u
-    → Asks rows d r u q v → AsksAll rows (take (i + 1) changes) s t q v
-asks_next rows changes i d s t r u q v lt at so_far step =
-    subst (λ (all : List ChangeId). AsksAll rows all s t q v) (sym (take_more changes i d lt))
-    (asked_more rows (take i changes) (get_or changes i d) s t r u q v so_far
-    (subst (λ (c : ChangeId). Asks rows c r u q v) at step))
 
 -- one step of discovery more
 pub runs_next : (n : ℕ) (a : Participant) (t : Turn) (b : Participant) (u : Turn) (c : Participant) (v : Turn) → Runs n a t b u

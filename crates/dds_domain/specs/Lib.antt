@@ -7,4 +7,3 @@ pub mod Heard
 pub mod Sharings
 pub mod Participants
 pub mod Matched
-pub mod Asking

@@ -1,7 +1,7 @@
 -- Our peer, as datagrams of the network reach it (RTPS 2.5, 8.3.4: the message receiver). What is said here of what it does is by
 -- the steps of dds_exchange, each of which is one of the machine; s becomes r, and a turn t becomes u. Where memory is wanting
 -- what came or goes is lost.
-use Rattle.std.specs.Prelude.{◌≡◌, ◌⊎◌, ℕ, zero, suc, ◌++◌, ◌∷◌, Bool, true, false, List, [], length, map, slice_get, Option, Some, None, MatchBool, MatchOption}
+use Rattle.std.specs.Prelude.{◌≡◌, ◌⊎◌, ℕ, zero, suc, ◌++◌, ◌∷◌, Bool, true, false, List, [], length, map, slice_get, Option, Some, None, MatchBool}
 use Rattle.dds_base.specs.declared.config.ReaderConfig.{ReaderConfig}
 use Rattle.dds_base.specs.declared.config.WriterConfig.{WriterConfig}
 use Rattle.dds_base.specs.declared.guid.Guid.{Guid}
@@ -15,20 +15,18 @@ use Rattle.dds_protocol.specs.declared.event.Output.{Output}
 use Rattle.dds_protocol.specs.declared.event.Packet.{Packet}
 use Rattle.rtps_discovery.specs.declared.packet.Packet.{Packet as Datagram}
 use Rattle.rtps_discovery.specs.declared.row.Row.{Row}
-use Rattle.rtps_fragments.specs.declared.nack_frag.ChangeId.{ChangeId}
-use Rattle.rtps_fragments.specs.Asking.{BeginsAgain}
 use Rattle.rtps_fragments.specs.Hearing.{HearsFront, HearsMessage, Row as Fragmented}
 use Rattle.rtps_matching.specs.declared.far.Far.{Far}
 use Rattle.rtps_matching.specs.declared.told.Told.{Told}
 use Rattle.dds_exchange.specs.declared.ends.OwnEnd.{OwnEnd}
 use Rattle.dds_exchange.specs.Exchanges.{Finds, GoesOut, Hears as Takes, IsOpened as IsExchange, MakesCall}
+use Rattle.dds_exchange.specs.Going.{address_of}
 use Rattle.dds_exchange.specs.States.{State as Exchange}
 use Rattle.dds_exchange.specs.Told.{due_of}
 use Rattle.dds_domain.specs.declared.early.Waiting.{Waiting}
-use Rattle.dds_domain.specs.Asking.{asking_of, count_after}
 use Rattle.dds_domain.specs.Earliness.{kept, most_early, without}
 use Rattle.dds_domain.specs.Fragmented.{HasFragment}
-use Rattle.dds_domain.specs.Heard.{IsHeardSo, IsReaderOf}
+use Rattle.dds_domain.specs.Heard.{IsHeardSo}
 use Rattle.dds_domain.specs.Opening.{config_of}
 use Rattle.dds_domain.specs.Turns.{MayLack, Records, Sends, State as Turn, lacking}
 
@@ -196,44 +194,23 @@ pub record WholeOf (bytes : List ℕ) (s : State) (t : Turn) (whole : List (List
       ⊎ (HearsFront bytes s.fragments r.fragments [] whole × (u ≡ lacking t))
   pub rest : r ≡ record s { fragments = r.fragments }
 
--- These are the changes that it begins again; for want of memory none is known.
-abbrev pub FindsAgain : List ℕ → State → Turn → List ChangeId → Turn → Type 0
-FindsAgain bytes s t again u =
-    (BeginsAgain bytes s.fragments again × (u ≡ t)) ⊎ ((again ≡ []) × (u ≡ lacking t))
+-- Fragments may be asked for, at the address of a participant.
+abbrev pub Asks : List Row → State → Turn → State → Turn → Type 0
+Asks rows s t r u =
+    (r ≡ record s { asked = r.asked })
+    × (((prefix : GuidPrefix) × (datagram : Datagram) × (address_of prefix rows ≡ Some datagram.to) × Sends datagram t u)
+    ⊎ MayLack t u)
 
--- What is missing of a change is asked for by one NACK_FRAG of the next count, if something is.
-abbrev pub AsksFor : List Row → ChangeId → Option Guid → State → Turn → State → Turn → Type 0
-AsksFor rows change reader s t r u =
-    MatchOption (asking_of rows s.fragments reader change (count_after s.asked)) ((r ≡ s) × (u ≡ t))
-    (λ d. (r ≡ record s { asked = count_after s.asked }) × Sends d t u)
-
--- A reader of ours asks that is matched with its writer; or memory is wanting.
-pub record Asks (rows : List Row) (change : ChangeId) (s : State) (t : Turn) (r : State) (u : Turn) : Type 0 where
-  pub reader : Option Guid
-  pub is_reader : IsReaderOf s.exchange s.readers change.writer reader
-  pub asks : AsksFor rows change reader s t r u ⊎ ((r ≡ s) × (u ≡ lacking t))
-
--- So it is with these, in their order.
-pub data AsksAll : List Row → List ChangeId → State → Turn → State → Turn → Type 0 where
-  asked_none : (rows : List Row) (s : State) (t : Turn) → AsksAll rows [] s t s t
-  asked_more : (rows : List Row) (changes : List ChangeId) (change : ChangeId) (s : State) (t : Turn) (r : State) (u : Turn)
-      (q : State) (v : Turn) → AsksAll rows changes s t r u → Asks rows change r u q v
-      → AsksAll rows (changes ++ change ∷ []) s t q v
-
--- What its fragments make whole comes. Of the changes that it begins again, as their first fragments were there, what is missing
--- then is asked for, and nothing else.
+-- What its fragments make whole comes.
 pub record HearsFragments (rows : List Row) (bytes : List ℕ) (s : State) (t : Turn) (r : State) (u : Turn) : Type 0 where
-  pub again : List ChangeId
   pub whole : List (List ℕ)
   pub taken : State
   pub after : State
   pub first : Turn
   pub second : Turn
-  pub third : Turn
-  pub finds : FindsAgain bytes s t again first
-  pub is_whole : WholeOf bytes s first whole taken second
-  pub delivers : DeliversAll rows whole taken second after third
-  pub asks : AsksAll rows again after third r u
+  pub is_whole : WholeOf bytes s t whole taken first
+  pub delivers : DeliversAll rows whole taken first after second
+  pub asks : Asks rows after second r u
 
 -- It comes as it is; or what its fragments make whole does, where it has some.
 pub record Hears (rows : List Row) (bytes : List ℕ) (s : State) (t : Turn) (r : State) (u : Turn) : Type 0 where

@@ -4,13 +4,13 @@
 //!
 //! RTPS 2.5, 8.4.10 (StatefulReader: matched_writers).
 
-ghost use Rattle.std.specs.Prelude.{◌≡◌, ◌<◌, find};
+ghost use Rattle.std.specs.Prelude.{◌≡◌, find};
 ghost use Rattle.std.specs.Option.{option_copied};
 ghost use Rattle.dds_core.specs.Standing.{StandsFor};
 ghost use Rattle.dds_protocol.specs.Peer.{Peer};
 ghost use Rattle.dds_protocol.specs.Roster.{Roster};
 ghost use Rattle.dds_exchange.specs.Naming.{is_named};
-ghost use Rattle.dds_domain.specs.Heard.{IsHeardAt, IsReaderAt, IsReaderOf, hears, is_end_at, is_heard, is_heard_end, most_readers};
+ghost use Rattle.dds_domain.specs.Heard.{hears, is_heard, is_heard_end, most_readers};
 
 use dds_base::{Endpoint, Guid};
 use dds_exchange::{Exchange, NamedEnd};
@@ -69,48 +69,4 @@ pub fn is_heard(exchange: &Exchange, far: &Guid) -> bool
         Some(end) => is_heard_end(exchange, end),
         None => false,
     }
-}
-
-/// Whether the reader of ours at a place is matched with an endpoint that has a name.
-fn is_end_at(exchange: &Exchange, end: &NamedEnd, place: u8) -> bool
-    requires { place < MAX_READERS }
-    ensures heard { (roster : Roster) (peer : Peer)
-        → StandsFor exchange.now.core.filtered.peer roster peer
-        → result ≡ is_end_at end.now.kind peer.part place end.now.name }
-{
-    matches!(end.kind, EndpointKind::Writer) && exchange.is_matched(place + 1, end.name)
-}
-
-/// Whether the reader of ours at a place is matched with an endpoint of others.
-fn is_heard_at(exchange: &Exchange, far: &Guid, place: u8) -> bool
-    requires { place < MAX_READERS }
-    ensures heard { IsHeardAt result exchange.now place far.now }
-{
-    match named(exchange, far) {
-        Some(end) => is_end_at(exchange, end, place),
-        None => false,
-    }
-}
-
-/// The reader of ours at a place, by its name, if it is matched with an endpoint of others.
-fn reader_at(exchange: &Exchange, readers: &[Guid], far: &Guid, place: u8) -> Option<Guid>
-    requires { place < MAX_READERS }
-    ensures { IsReaderAt exchange.now readers.now far.now place result }
-{
-    match readers.get(usize::from(place)) {
-        Some(reader) if is_heard_at(exchange, far, place) => Some(*reader),
-        _ => None,
-    }
-}
-
-/// A reader of ours, by its name, that is matched with an endpoint of others.
-pub fn reader_of(exchange: &Exchange, readers: &[Guid], far: &Guid) -> Option<Guid>
-    ensures { IsReaderOf exchange.now readers.now far.now result }
-{
-    for place in 0..MAX_READERS {
-        if let Some(reader) = reader_at(exchange, readers, far, place) {
-            return Some(reader);
-        }
-    }
-    None
 }

@@ -20,7 +20,6 @@
 
 mod asking;
 mod early;
-mod fragmented;
 mod heard;
 mod matched;
 mod opening;

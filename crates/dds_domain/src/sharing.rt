@@ -9,22 +9,21 @@ ghost use Rattle.std.specs.Prelude.{◌≡◌, ◌⊎◌, IfOk, IfErr, OnOk, OnE
 ghost use Rattle.dds_base.specs.Refusal.{Refuses};
 ghost use Rattle.dds_core.specs.Opening.{core_refusal};
 ghost use Rattle.dds_domain.specs.Opening.{config_of};
-ghost use Rattle.dds_domain.specs.Sharings.{Asks, AsksAll, ComesEarly, Delivers, DeliversAll, FindsAgain, Happens, Hears, HearsFragments, IsFirstEarly, IsOpened, KeepsEarly, Meets, MeetsAll, SendsAll, SendsOut, TakesEarly, Tells, WholeOf};
+ghost use Rattle.dds_domain.specs.Sharings.{Asks, ComesEarly, Delivers, DeliversAll, Happens, Hears, HearsFragments, IsFirstEarly, IsOpened, KeepsEarly, Meets, MeetsAll, SendsAll, SendsOut, TakesEarly, Tells, WholeOf};
 ghost use Rattle.dds_domain.specs.Turns.{MayLack};
 
-use crate::asking::{asking, count_after};
+use crate::asking::{asking, first_alone, has_fragment};
 use crate::early::{Early, MOST_EARLY, heartbeat_of};
-use crate::fragmented::has_fragment;
-use crate::heard::{is_heard, is_heard_end, reader_of};
+use crate::heard::{is_heard, is_heard_end};
 use crate::opening::{Parts, config_of};
 use crate::telling::meet_all;
 use crate::turn::Turn;
 use dds_base::{Code, Guid, GuidPrefix, Octets};
-use dds_exchange::{Exchange, far_of};
+use dds_exchange::{Exchange, address_of, far_of};
 use dds_machine::Reply;
 use dds_protocol::{Event, Packet};
-use rtps_discovery::Row;
-use rtps_fragments::{ChangeId, Fragments};
+use rtps_discovery::{Packet as Datagram, Row};
+use rtps_fragments::Fragments;
 use rtps_matching::{Far, Told};
 use std::alloc::{AllocError, Global};
 use std::marker::Model;
@@ -40,7 +39,7 @@ pub struct Sharing {
     early: Early,
     /// Our readers, in the order of their numbers.
     readers: Vec<Guid>,
-    /// The count of the last NACK_FRAG.
+    /// How often fragments were asked for.
     asked: u32,
 }
 
@@ -282,53 +281,43 @@ impl Sharing {
         whole
     }
 
-    /// The changes that a datagram begins again.
-    fn again(&self, bytes: &[u8], turn: &mut Turn) -> Vec<ChangeId>
-        ensures { FindsAgain bytes.now self.now turn.old result.items turn.new }
-    {
-        match self.fragments.again(self.alloc, bytes) {
-            Ok(again) => again,
-            Err(_) => {
-                turn.lack();
-                Vec::new(self.alloc)
-            }
+    /// The reader of ours that was matched with a writer first, if one is matched with it.
+    fn reader_of(&self, far: &Guid) -> Option<Guid> {
+        if !is_heard(&self.exchange, far) {
+            return None;
         }
+        let end = self.exchange.named().iter().find(|end| end.guid == *far)?;
+        let place = usize::from(end.own).checked_sub(1)?;
+        self.readers.get(place).copied()
     }
 
-    /// Asks for what is missing of a change.
-    fn ask(&mut self, rows: &[Row], change: &ChangeId, turn: &mut Turn)
-        ensures { Asks rows.now change.now self.old turn.old self.new turn.new }
+    /// Asks for the fragments behind a first one that came alone.
+    fn ask(&mut self, rows: &[Row], bytes: &[u8], turn: &mut Turn)
+        ensures { Asks rows.now self.old turn.old self.new turn.new }
     {
-        let reader = reader_of(&self.exchange, self.readers.as_slice(), &change.writer);
-        let count = count_after(self.asked);
-        match asking(self.alloc, rows, &self.fragments, reader, change, count) {
-            Ok(Some(datagram)) => {
-                self.asked = count;
-                turn.send(datagram);
-            }
-            Ok(None) => {}
+        let Some(first) = first_alone(bytes) else {
+            return;
+        };
+        let Some(reader) = self.reader_of(&first.writer) else {
+            return;
+        };
+        let Some(to) = address_of(rows, &first.writer.prefix) else {
+            return;
+        };
+        self.asked = self.asked.saturating_add(1);
+        match asking(self.alloc, &reader, &first, self.asked) {
+            Ok(bytes) => turn.send(Datagram { to, bytes }),
             Err(_) => turn.lack(),
         }
     }
 
-    /// So it does with these, in their order.
-    fn ask_all(&mut self, rows: &[Row], changes: &[ChangeId], turn: &mut Turn)
-        ensures asked { AsksAll rows.now changes.now self.old turn.old self.new turn.new }
-    {
-        for change in changes {
-            self.ask(rows, change, turn);
-        }
-    }
-
     /// Of a datagram with fragments what they made whole comes in its place: all else of it is lost, as a network may lose it.
-    /// A first fragment that comes again has the others asked for: some products send it alone, and wait for that.
     fn hear_fragments(&mut self, rows: &[Row], bytes: &[u8], turn: &mut Turn)
         ensures { HearsFragments rows.now bytes.now self.old turn.old self.new turn.new }
     {
-        let again = self.again(bytes, turn);
         let whole = self.whole_of(bytes, turn);
         self.deliver_all(rows, whole.as_slice(), turn);
-        self.ask_all(rows, again.as_slice(), turn);
+        self.ask(rows, bytes, turn);
     }
 
     /// A datagram comes.

@@ -43,7 +43,6 @@ alike_as {inside} {reader = reader} {store} view same how qos holds =
       seen = refl;
       matches = refl;
       here = refl;
-      misfits = refl;
       holds = holds;
     })
 

@@ -126,7 +126,6 @@ expires kept now store qos died = record {
     hows = s.hows;
     counts = s.counts;
     here_is = s.here_is;
-    misfits = s.misfits;
   };
 }
 

@@ -25,7 +25,6 @@ use Rattle.dds_ends.specs.Beating.{first_peers, peer_of}
 use Rattle.dds_ends.specs.Coming.{Joins, matched_anew, with_peer, with_place}
 use Rattle.dds_ends.specs.Kept.{WriterKept}
 use Rattle.dds_ends.specs.MatchCounts.{CountsFor}
-use Rattle.dds_ends.specs.Misfits.{IsTold}
 use Rattle.dds_ends.specs.MatchedEnds.{AreAmong, AreMatchedNow, AreRows, IsNameOf, IsPeer, IsReliableName, has_count, is_named, known_as, last_count, names_of, readers_of, topic_reader}
 use Rattle.dds_ends.specs.Standing.{AreQuiet, AreShort, CountsFrom1, IsWhole, WriterStands, state_of}
 use Rattle.dds_ends.proofs.Acknowledging.{state_as}
@@ -178,7 +177,6 @@ stands_met k reader silent w answered s none unmatched = record {
       (other_met answered reader silent e (another e there (same_endpoint e reader) refl))
       ∙ s.quiet e there absent;
   matches = s.matches;
-  misfits = s.misfits;
 }
   where
     another : (e : Endpoint) → is_named k.matched e ≡ true → (b : Bool) → same_endpoint e reader ≡ b
@@ -250,7 +248,6 @@ joins old k name true greeted to matches a makes w answered s none asks_none sil
       (subst (λ (x : WriterKept). AreQuiet (x.matched ++ name ∷ []) (old.readers ++ name ∷ []) answered) (sym a.same)
       (quiet_more old.matched old.readers name true answered s.quiet (λ no. absurd cc)));
   matches = makes w.matches s.matches;
-  misfits = subst (λ (x : WriterKept). IsTold x.misfits w.offered w.misfits) (sym a.same) s.misfits;
 }
   where
     absent : is_named old.readers name.reader ≡ false
@@ -300,7 +297,6 @@ joins old k name false greeted to matches a makes w answered s none asks_none si
       (subst (λ (x : WriterKept). AreQuiet (x.matched ++ name ∷ []) old.readers answered) (sym a.same)
       (quiet_more old.matched old.readers name false answered s.quiet (λ so. silent ∙ late greeted)));
   matches = makes w.matches s.matches;
-  misfits = subst (λ (x : WriterKept). IsTold x.misfits w.offered w.misfits) (sym a.same) s.misfits;
 }
   where
     late : (b : Bool) → (b && false) ≡ false

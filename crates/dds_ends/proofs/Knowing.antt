@@ -255,6 +255,5 @@ knows_one_more kept name as_writer reader store matches one count few qos joins 
     hows = hows_more kept name reader proxies r tracked one count none s;
     counts = made r.matches s.counts;
     here_is = here_more kept name proxies r tracked few s;
-    misfits = s.misfits;
   };
 }

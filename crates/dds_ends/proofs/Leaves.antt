@@ -166,7 +166,6 @@ forgets old reader row name count writer at is leaves counts w answered s = reco
       subst (λ (ns : List ReaderName). AreQuiet (without old.matched reader) ns answered) names_left
       (quiet_without old.matched old.readers reader answered s.quiet);
   matches = s.matches;
-  misfits = s.misfits;
 }
   where
     name_at : slice_get (readers_of old.readers) row ≡ Some reader
@@ -238,7 +237,6 @@ forgets_none old reader none w answered s =
           (both_true (is_named old.matched e) (not (same_endpoint e reader))
           (sym (named_without old.matched reader e) ∙ there)).0 absent;
       matches = s.matches;
-      misfits = s.misfits;
     })
   where
     gone : is_named old.readers reader ≡ false
@@ -270,7 +268,6 @@ leaves_match k reader to counts ends w answered s = record {
   counted = s.counted;
   quiet = s.quiet;
   matches = ends w.matches s.matches;
-  misfits = s.misfits;
 }
 
 -- whom it is matched with is known as it was

@@ -40,8 +40,6 @@ pub mod Leaves
 pub mod Joins
 pub mod Meetings
 pub mod Refusing
-pub mod Missing
-pub mod MisfitTimes
 pub mod Marked
 pub mod Results
 pub mod SeenStatuses

@@ -9,12 +9,10 @@ use Rattle.std.proofs.lemmas.List.{length-map}
 use Rattle.dds_base.specs.declared.code.Code.{Code}
 use Rattle.dds_base.specs.declared.code.Code.TheVariants.{Memory, OutOfResources, PreconditionNotMet}
 use Rattle.dds_base.specs.declared.endpoint.Endpoint.{Endpoint}
-use Rattle.dds_base.specs.declared.policies.Policies.{Policies}
 use Rattle.dds_base.specs.declared.qos.MatchedWriter.{MatchedWriter}
 use Rattle.dds_base.specs.Refusal.{Refuses}
 use Rattle.dds_machine.specs.Matching.{happened_once_met, is_known, matching_refusal, max_known, reader_joined, reader_met, with_how, with_match}
-use Rattle.dds_machine.specs.Fitting.{once_fit}
-use Rattle.dds_machine.specs.Part.{Away, Misfits, Reader, Waiting, WriterProxy, how_of, is_attached, publication_among, row_of, same_endpoint}
+use Rattle.dds_machine.specs.Part.{Away, Reader, Waiting, WriterProxy, how_of, is_attached, publication_among, row_of, same_endpoint}
 use Rattle.dds_machine.proofs.Tables.{same_is}
 use Rattle.dds_protocol.proofs.InOrder.{same_self}
 use Rattle.rtps_reader.specs.Tracked.{Tracked}
@@ -22,8 +20,7 @@ use Rattle.dds_ends.specs.declared.matching.WriterName.{WriterName}
 use Rattle.dds_ends.specs.Identity.{ReaderIdentity}
 use Rattle.dds_ends.specs.Kept.{ReaderKept}
 use Rattle.dds_ends.specs.Knowing.{KnowsMore, new_proxy}
-use Rattle.dds_ends.specs.Meeting.{MeetsWriter, MeetsWriterSo, RefusesWriterSo, has_row, knowing_writer}
-use Rattle.dds_ends.specs.Misfits.{IsTold, MisfitsKept}
+use Rattle.dds_ends.specs.Meeting.{MeetsWriter, RefusesWriterSo, has_row}
 use Rattle.dds_ends.specs.Parting.{Attaches}
 use Rattle.dds_ends.specs.Standing.{HasNoRow, IsFirstRow, ReaderStands}
 use Rattle.dds_ends.proofs.Alike.{last-cases}
@@ -144,8 +141,7 @@ no_row_is (x ∷ xs) w none =
 
 -- it knew the writer
 pub meets_known : (old new : ReaderKept) (name : WriterName) (as_writer : MatchedWriter) (row : ℕ)
-    → IsFirstRow old.writers name.writer row → Attaches old row new
-    → MeetsWriterSo knowing_writer old name as_writer row new
+    → IsFirstRow old.writers name.writer row → Attaches old row new → MeetsWriter old name as_writer row new
 meets_known old new name as_writer row first attaches =
     let writers : new.writers ≡ old.writers = ap (λ (i : ReaderIdentity). i.writers) attaches.same in
     record {
@@ -183,7 +179,7 @@ last_row names name none = record {
 -- it did not know the writer
 pub meets_new : (old new : ReaderKept) (name : WriterName) (as_writer : MatchedWriter) (row : ℕ)
     → HasNoRow old.writers name.writer → row ≡ length old.writers → KnowsMore old name as_writer new
-    → MeetsWriterSo knowing_writer old name as_writer row new
+    → MeetsWriter old name as_writer row new
 meets_new old new name as_writer row none last more = record {
   entity = more.entity;
   reliable = more.reliable;
@@ -201,34 +197,6 @@ meets_new old new name as_writer row none last more = record {
       subst (λ (ns : List WriterName). IsFirstRow ns name.writer row) (sym more.writers)
       (subst (λ (n : ℕ). IsFirstRow (old.writers ++ name ∷ []) name.writer n) (sym last)
       (last_row old.writers name none));
-}
-
--- a reader that learned of it, and that it fits, has met it
-pub meets_fit : (old mid : ReaderKept) (name : WriterName) (as_writer : MatchedWriter) (row : ℕ) (after : MisfitsKept)
-    → ((own : Policies) (m : Misfits) → IsTold mid.misfits own m → IsTold after own (once_fit m name.writer))
-    → MeetsWriterSo knowing_writer old name as_writer row mid
-    → MeetsWriter old name as_writer row (record mid { misfits = after })
-meets_fit old mid name as_writer row after fits m = record {
-  entity = m.entity;
-  reliable = m.reliable;
-  writers = m.writers;
-  stands = λ proxies r tracked s.
-      let t : ReaderStands mid (with_match proxies name.writer) (knowing_writer proxies r name.writer as_writer) tracked =
-      m.stands proxies r tracked s in
-      record {
-        writers_are = t.writers_are;
-        places = t.places;
-        knows = t.knows;
-        others = t.others;
-        qos_is = t.qos_is;
-        holds = t.holds;
-        seen_is = t.seen_is;
-        hows = t.hows;
-        counts = t.counts;
-        here_is = t.here_is;
-        misfits = fits r.requested r.misfits t.misfits;
-      };
-  at = m.at;
 }
 
 -- the publication handle of the writer that was met

@@ -9,11 +9,9 @@ use Rattle.std.proofs.lemmas.List.{length-map, map-append}
 use Rattle.dds_base.specs.Bounds.{max_ends}
 use Rattle.dds_base.specs.declared.code.Code.TheVariants.{OutOfResources}
 use Rattle.dds_base.specs.declared.endpoint.Endpoint.{Endpoint}
-use Rattle.dds_base.specs.declared.policies.Policies.{Policies}
 use Rattle.rtps_writer.specs.Standing.{Kept}
-use Rattle.dds_machine.specs.Fitting.{once_fit}
-use Rattle.dds_machine.specs.Matching.{joined, known_at, knowing, knows_reader, knows_reliable, knows_too_many, matching_refusal, max_known, meets_reliable, met, told_fit}
-use Rattle.dds_machine.specs.Part.{Misfits, TopicReader, Writer, same_endpoint}
+use Rattle.dds_machine.specs.Matching.{joined, known_at, knowing, knows_reader, knows_reliable, knows_too_many, matching_refusal, max_known}
+use Rattle.dds_machine.specs.Part.{TopicReader, Writer, same_endpoint}
 use Rattle.dds_protocol.specs.Contact.{Contact}
 use Rattle.dds_protocol.proofs.InOrder.{same_self}
 use Rattle.dds_ends.specs.declared.matching.Destination.{Destination}
@@ -23,8 +21,7 @@ use Rattle.dds_ends.specs.Beating.{names_at}
 use Rattle.dds_ends.specs.Coming.{Joins, RefusesSo, matched_anew}
 use Rattle.dds_ends.specs.Kept.{WriterKept}
 use Rattle.dds_ends.specs.MatchedEnds.{AreKnownReaders, is_named, known_as, names_of, topic_reader}
-use Rattle.dds_ends.specs.Meeting.{MayKnow, MayMeet, Meets, MeetsSo, is_full, knowing_it, learned, meeting_refusal, with_known}
-use Rattle.dds_ends.specs.Misfits.{IsTold, MisfitsKept}
+use Rattle.dds_ends.specs.Meeting.{MayKnow, MayMeet, Meets, is_full, learned, meeting_refusal, with_known}
 use Rattle.dds_ends.specs.Standing.{IsWhole, WriterStands}
 use Rattle.dds_ends.proofs.Among.{is_known_as}
 use Rattle.dds_ends.proofs.FewAt.{count-last, count-map, few_at, few_names, is_at, one_if}
@@ -191,7 +188,6 @@ learned_stands kept k w answered s =
       counted = s.counted;
       quiet = s.quiet;
       matches = s.matches;
-      misfits = s.misfits;
     }
     by true false same = absurd cc
     by false true same = absurd cc
@@ -216,7 +212,7 @@ joins_known old reader k greeted new is joins =
 -- it meets one that it knew, under whatever name ..
 pub meets_known : (old : WriterKept) (name : ReaderName) (reliable : Bool) (k : TopicName) (greeted : Bool)
     (new : WriterKept) → known_as old.known name.reader ≡ Some k → Joins (learned old k) k.name.reader greeted new
-    → MeetsSo knowing_it old name reliable greeted new
+    → Meets old name reliable greeted new
 meets_known old name reliable k greeted new is learns =
     let joins : Joins old name.reader greeted new = joins_known old name.reader k greeted new is learns in
     record {
@@ -240,7 +236,7 @@ meets_known old name reliable k greeted new is learns =
 
 -- .. and one that it did not
 pub meets_new : (old : WriterKept) (k : TopicName) (greeted : Bool) (new : WriterKept)
-    → Joins (learned old k) k.name.reader greeted new → MeetsSo knowing_it old k.name k.is_reliable greeted new
+    → Joins (learned old k) k.name.reader greeted new → Meets old k.name k.is_reliable greeted new
 meets_new old k greeted new joins = record {
   entity = joins.same.entity;
   autodispose = joins.same.autodispose;
@@ -251,68 +247,6 @@ meets_new old k greeted new joins = record {
   ends = λ roster writer are ends.
       joins.ends roster writer (subst (λ (ks : List TopicName). AreKnownReaders roster writer ks) joins.same.known are)
       ends;
-}
-
--- ---- that it fits
-
--- it stands for a writer that was told that this one fits
-with_fit : (k : WriterKept) (after : MisfitsKept) (reader : Endpoint) (w : Writer) (answered : Endpoint → Contact)
-    → ((own : Policies) (m : Misfits) → IsTold k.misfits own m → IsTold after own (once_fit m reader))
-    → WriterStands k w answered
-    → WriterStands (record k { misfits = after }) (record w { misfits = once_fit w.misfits reader }) answered
-with_fit k after reader w answered fits s = record {
-  autodispose = s.autodispose;
-  values = s.values;
-  known = s.known;
-  matched = s.matched;
-  readers = s.readers;
-  writer = s.writer;
-  begun = s.begun;
-  rows = s.rows;
-  counted = s.counted;
-  quiet = s.quiet;
-  matches = s.matches;
-  misfits = fits w.offered w.misfits s.misfits;
-}
-
--- one that is met is known, and fits
-met_is : (w : Writer) (reader : Endpoint) (reliable : Bool)
-    → met w reader reliable
-    ≡ record (knowing_it w reader reliable) { misfits = once_fit (knowing_it w reader reliable).misfits reader }
-met_is w reader reliable = by (knows_reader w reader)
-  where
-    new : List TopicReader
-    new = w.known ++ record { reader = reader; reliable = reliable } ∷ []
-
-    after : Bool → Writer
-    after b = if b then w else record w { known = new }
-
-    is_reliable : Bool → Bool
-    is_reliable b = knows_reliable (after b) reader
-
-    by : (b : Bool)
-        → joined (if b then told_fit w reader else record (told_fit w reader) { known = new }) reader (is_reliable b)
-        ≡ record (joined (after b) reader (is_reliable b))
-        { misfits = once_fit (joined (after b) reader (is_reliable b)).misfits reader }
-    by true = refl
-    by false = refl
-
--- so a writer that learned of it, and that it fits, has met it
-pub meets_fit : (old mid : WriterKept) (name : ReaderName) (reliable greeted : Bool) (after : MisfitsKept)
-    → ((own : Policies) (m : Misfits) → IsTold mid.misfits own m → IsTold after own (once_fit m name.reader))
-    → MeetsSo knowing_it old name reliable greeted mid → Meets old name reliable greeted (record mid { misfits = after })
-meets_fit old mid name reliable greeted after fits m = record {
-  entity = m.entity;
-  autodispose = m.autodispose;
-  max_value = m.max_value;
-  known = m.known;
-  stands = λ w answered s.
-      let now : Endpoint → Contact =
-      matched_anew answered name.reader (greeted && meets_reliable w name.reader reliable) in
-      subst (λ (x : Writer). WriterStands (record mid { misfits = after }) x now)
-      (sym (met_is w name.reader reliable))
-      (with_fit mid after name.reader (knowing_it w name.reader reliable) now fits (m.stands w answered s));
-  ends = m.ends;
 }
 
 -- ---- why it refuses one

@@ -18,9 +18,8 @@ use Rattle.rtps_reader.specs.Attached.{StandsNow}
 use Rattle.rtps_reader.specs.Reader.{Proxies, how_at}
 use Rattle.rtps_reader.specs.Tracked.{Tracked}
 use Rattle.dds_base.specs.declared.endpoint.Endpoint.{Endpoint}
-use Rattle.dds_base.specs.declared.policies.Policies.{Policies}
 use Rattle.dds_machine.specs.Matching.{attached_count, happened_after, is_known, match_ended, match_made, max_known, reader_joined, reader_left, with_how}
-use Rattle.dds_machine.specs.Part.{Attachment, Away, Waiting, Matches, Misfits, Reader, WriterProxy, how_of, is_attached, publication_among, row_of}
+use Rattle.dds_machine.specs.Part.{Attachment, Away, Waiting, Matches, Reader, WriterProxy, how_of, is_attached, publication_among, row_of}
 use Rattle.dds_machine.specs.Passing.{passed_at}
 use Rattle.dds_machine.proofs.Tables.{place-how, row-cases, row-hits}
 use Rattle.dds_protocol.proofs.Framing.{pair_or_not}
@@ -28,7 +27,6 @@ use Rattle.dds_ends.specs.declared.matching.WriterName.{WriterName}
 use Rattle.dds_ends.specs.declared.match_counts.MatchCounts.{MatchCounts}
 use Rattle.dds_ends.specs.MatchCounts.{CountsFor}
 use Rattle.dds_ends.specs.Kept.{ReaderKept}
-use Rattle.dds_ends.specs.Misfits.{IsTold}
 use Rattle.dds_ends.specs.Parting.{Attaches, Detaches, IsPastParting, joined_here, left_here, parting_entries}
 use Rattle.dds_ends.specs.Standing.{IsFirstRow, ReaderStands, stood_as}
 use Rattle.dds_ends.specs.Stored.{StoreKept}
@@ -144,13 +142,12 @@ told_how : (kept : ReaderKept) (row : ℕ) (a : AttachmentOf) (reader : Proxies)
     (matches : MatchCounts) (here : ℕ)
     → StandsNow kept.reader row a reader → qos_of store.cache ≡ qos_of kept.store.cache → (writer : Endpoint)
     (proxies : List WriterProxy) (r after : Reader) (tracked : Endpoint → Tracked) → IsFirstRow kept.writers writer row
-    → ReaderStands kept proxies r tracked → after.qos ≡ r.qos → after.seen ≡ r.seen → after.requested ≡ r.requested
-    → after.misfits ≡ r.misfits → Holds store after.happened
+    → ReaderStands kept proxies r tracked → after.qos ≡ r.qos → after.seen ≡ r.seen → Holds store after.happened
     → CountsFor matches after.matches → here ≡ attached_count (with_how proxies writer (stood_as a))
     → ReaderStands (record kept { reader = reader; store = store; matches = matches; here = here })
     (with_how proxies writer (stood_as a)) after tracked
-told_how kept row a reader store matches here now qos writer proxies r after tracked first s same_qos same_seen same_asks
-    same_misfits holds counts here_is = record {
+told_how kept row a reader store matches here now qos writer proxies r after tracked first s same_qos same_seen holds
+    counts here_is = record {
       writers_are =
           writers_kept (λ (p : WriterProxy). record p { how = stood_as a }) (λ p. refl) proxies writer ∙ s.writers_are;
       places = λ w p at. s.places w p (sym (place-how proxies writer (stood_as a) w) ∙ at);
@@ -162,8 +159,6 @@ told_how kept row a reader store matches here now qos writer proxies r after tra
       hows = λ w k f. by_how w k f (pair_or_not w 0 writer 0);
       counts = counts;
       here_is = here_is;
-      misfits = subst (λ (m : Misfits). IsTold kept.misfits after.requested m) (sym same_misfits)
-          (subst (λ (p : Policies). IsTold kept.misfits p r.misfits) (sym same_asks) s.misfits);
     }
   where
     known : is_known proxies writer ≡ true
@@ -234,7 +229,7 @@ attaches kept row reader name met matches now few at is made = record {
       (sym (ap (λ (b : Bool). if b then with_how proxies writer Waiting
       else proxies ++ record { writer = writer; place = 1; heard = None; how = Waiting } ∷ []) known))
       (told_how kept row standing.Waiting reader kept.store matches (joined_here met kept.here) now refl writer proxies
-      r (reader_joined r writer) tracked first s refl refl refl refl s.holds
+      r (reader_joined r writer) tracked first s refl refl s.holds
       (subst (λ (e : Endpoint). CountsFor matches (match_made r.matches e))
       (name_there kept.writers row writer name first at) (made r.matches s.counts))
       (count_joined met kept.here (attached_count proxies) (attached_count (with_how proxies writer Waiting)) s.here_is
@@ -270,7 +265,7 @@ detaches kept row now reader store name met matches stands qos left at is ended 
       count_set (λ (p : WriterProxy). record p { how = Away }) false (λ p. refl) proxies writer row
       (first_among kept proxies r tracked writer row s first) in
       told_how kept row standing.Away reader store matches (left_here met kept.here) stands qos writer proxies r
-      (reader_left r writer happened) tracked first s refl refl refl refl
+      (reader_left r writer happened) tracked first s refl refl
       (subst (λ (h : List Happening). Holds store h)
       (sym (parted_there kept row now writer proxies r tracked first s)) (left r.happened s.holds))
       (subst (λ (e : Endpoint). CountsFor matches (match_ended r.matches e))

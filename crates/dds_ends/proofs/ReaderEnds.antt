@@ -7,8 +7,7 @@ use Rattle.dds_base.specs.declared.config.ReaderConfig.{ReaderConfig}
 use Rattle.dds_base.specs.declared.config.WriterConfig.{WriterConfig}
 use Rattle.dds_base.specs.declared.qos.MatchedWriter.{MatchedWriter}
 use Rattle.dds_base.specs.declared.qos.ReaderQos.{ReaderQos}
-use Rattle.dds_base.specs.Offered.{requested}
-use Rattle.dds_base.specs.Matched.{same_topic, is_reliable, is_reliable_reader, of_matched_writers}
+use Rattle.dds_base.specs.Matched.{any_writer, same_topic, is_reliable, is_reliable_reader, of_ends_in, of_matched_writers}
 use Rattle.dds_cache.specs.Standing.{qos_of}
 use Rattle.dds_lease.specs.Standing.{writer_count}
 use Rattle.rtps_reader.specs.declared.attachment.Attachment.{Attachment as AttachmentOf}
@@ -19,7 +18,7 @@ use Rattle.dds_base.specs.declared.endpoint.Endpoint.{Endpoint}
 use Rattle.dds_base.specs.Checked.{limit_of}
 use Rattle.dds_protocol.proofs.Opened.{writers_in}
 use Rattle.dds_machine.specs.Opening.{matched_writers}
-use Rattle.dds_machine.specs.Part.{Begun, WriterProxy, same_endpoint, row_of, place_of, nothing_seen, no_misfits, opened_with}
+use Rattle.dds_machine.specs.Part.{Begun, WriterProxy, same_endpoint, row_of, place_of, nothing_seen, opened_with}
 use Rattle.dds_protocol.proofs.OwnGuids.{as_many}
 use Rattle.dds_ends.specs.declared.matching.WriterName.{WriterName}
 use Rattle.dds_ends.proofs.Rows.{AllBegun, IsFirstOf, how_there, is_first_of, proxied, writers_of}
@@ -31,7 +30,6 @@ use Rattle.dds_ends.specs.Stored.{StoreKept}
 use Rattle.dds_ends.specs.Storing.{Holds}
 use Rattle.dds_ends.specs.declared.match_counts.MatchCounts.{MatchCounts}
 use Rattle.dds_ends.specs.MatchCounts.{CountsFor}
-use Rattle.dds_ends.specs.Misfits.{IsTold, MisfitsKept}
 use Rattle.dds_ends.proofs.Attachments.{count_begun}
 use Rattle.dds_ends.proofs.Identities.{identity_as}
 use Rattle.dds_ends.proofs.Lists.{get-within}
@@ -147,9 +145,8 @@ pub opens_reader : (first : ℕ) (peers : List PeerConfig) (r : ReaderConfig) (n
     → ((index : ℕ) → index < length names → Tracks reader index fresh)
     → ((index : ℕ) → index < length names → how_at reader index ≡ standing.Begun)
     → qos_of store.cache ≡ qos_with r writers → Holds store [] → (matches : MatchCounts) (here : ℕ)
-    → CountsFor matches (opened_with (writers_of names)) → here ≡ length names → (misfits : MisfitsKept)
-    → IsTold misfits (requested r) no_misfits
-    → OpensReader peers r
+    → CountsFor matches (opened_with (writers_of names)) → here ≡ length names
+    → OpensReader first peers r
     (record {
       entity = r.entity;
       writers = names;
@@ -158,10 +155,8 @@ pub opens_reader : (first : ℕ) (peers : List PeerConfig) (r : ReaderConfig) (n
       seen = nothing_seen;
       matches = matches;
       here = here;
-      misfits = misfits;
     })
-opens_reader peers r names writers reader store matched told nothing begun qos stands matches here counts here_is misfits
-    none_told =
+opens_reader first peers r names writers reader store matched told nothing begun qos stands matches here counts here_is =
     record {
       identity =
           identity_as r.entity r.entity names _ (reliable_in store) (is_reliable_reader r) refl matched
@@ -181,8 +176,7 @@ opens_reader peers r names writers reader store matched told nothing begun qos s
             (all_begun r.topic first peers)
             ∙ sym (ap (λ (x : AttachmentOf). stood_as x) (begun k (get-within names k f.name f.at)));
         counts = subst (λ (es : List Endpoint). CountsFor matches (opened_with es)) (sym same) counts;
-        here_is = here_is ∙ (as_named ∙ sym (count_begun (matched_writers r.topic 1 peers) (all_begun r.topic 1 peers)));
-        misfits = none_told;
+        here_is = here_is ∙ (as_named ∙ sym (count_begun (matched_writers r.topic first peers) (all_begun r.topic first peers)));
       };
     }
   where

@@ -30,7 +30,6 @@ sees_kept kept matches seen = record {
     hows = s.hows;
     counts = subst (λ (n : ℕ). CountsFor matches (seen_matches r.matches n)) s.here_is (seen r.matches s.counts);
     here_is = s.here_is;
-    misfits = s.misfits;
   };
 }
 

@@ -8,16 +8,15 @@ use Rattle.dds_base.specs.declared.status.SampleLostStatus.{SampleLostStatus}
 use Rattle.dds_base.specs.Liveliness.{alive_count, not_alive_count}
 use Rattle.dds_base.specs.Statuses.{lost_count}
 use Rattle.dds_cache.specs.Standing.{qos_of}
-use Rattle.dds_notices.specs.declared.incompatible.IncompatibleQosStatus.{IncompatibleQosStatus}
 use Rattle.dds_notices.specs.declared.notice.Status.{Status}
-use Rattle.dds_notices.specs.declared.notice.Status.TheVariants.{RequestedIncompatibleQos, SampleLost, DataAvailable, LivelinessChanged, SubscriptionMatched}
+use Rattle.dds_notices.specs.declared.notice.Status.TheVariants.{SampleLost, DataAvailable, LivelinessChanged, SubscriptionMatched}
 use Rattle.dds_base.specs.declared.endpoint.Endpoint.{Endpoint}
 use Rattle.dds_machine.specs.Noticing.{seen_by}
 use Rattle.dds_machine.specs.Part.{Reader, Seen, WriterProxy}
 use Rattle.rtps_reader.specs.Tracked.{Tracked}
 use Rattle.dds_ends.specs.Kept.{ReaderKept}
 use Rattle.dds_ends.specs.Noticing.{SeesStatus}
-use Rattle.dds_ends.specs.Looking.{SeesMatches, SeesMisfits, TellsLiveliness, TellsLost}
+use Rattle.dds_ends.specs.Looking.{SeesMatches, TellsLiveliness, TellsLost}
 use Rattle.dds_ends.specs.Standing.{ReaderStands}
 use Rattle.dds_ends.specs.Storing.{Holds}
 
@@ -40,7 +39,6 @@ sees_so k k' status seen is so proxies r tracked s =
       hows = s.hows;
       counts = s.counts;
       here_is = s.here_is;
-      misfits = s.misfits;
     })
 
 pub sees_lost : (k k' : ReaderKept) (status : Status) (x v : SampleLostStatus) (now : Seen) → status ≡ SampleLost x
@@ -83,10 +81,4 @@ sees_turn k k' status x v now is tells after =
 pub sees_matches : (k k' : ReaderKept) (status : Status) (x : MatchedStatus) → status ≡ SubscriptionMatched x
     → SeesMatches k k' → SeesStatus k status k'
 sees_matches k k' status x is sees =
-    subst (λ (y : Status). SeesStatus k y k') (sym is) (λ proxies r tracked s. sees.stands proxies r tracked s)
-
--- a look at REQUESTED_INCOMPATIBLE_QOS
-pub sees_misfits : (k k' : ReaderKept) (status : Status) (x : IncompatibleQosStatus) → status ≡ RequestedIncompatibleQos x
-    → SeesMisfits k k' → SeesStatus k status k'
-sees_misfits k k' status x is sees =
     subst (λ (y : Status). SeesStatus k y k') (sym is) (λ proxies r tracked s. sees.stands proxies r tracked s)

@@ -11,7 +11,6 @@ use Rattle.dds_base.specs.declared.config.PeerConfig.{PeerConfig}
 use Rattle.dds_base.specs.declared.config.WriterConfig.{WriterConfig}
 use Rattle.dds_base.specs.declared.guid.EntityId.{EntityId}
 use Rattle.dds_base.specs.Kept.{append_refusal}
-use Rattle.dds_base.specs.Offered.{offered}
 use Rattle.dds_base.specs.Ownership.{carried}
 use Rattle.dds_base.specs.Refusal.{Refuses}
 use Rattle.dds_base.specs.Written.{Written, Changed, Ticked, changes_of}
@@ -20,7 +19,7 @@ use Rattle.rtps_writer.specs.WriterState.{WriterState, entering, history_of, is_
 use Rattle.dds_base.specs.declared.endpoint.Endpoint.{Endpoint}
 use Rattle.dds_machine.specs.Opening.{matched_readers, reliable_readers}
 use Rattle.dds_machine.specs.Matching.{seen_matches}
-use Rattle.dds_machine.specs.Part.{Matches, Writer, ReaderProxy, no_misfits, opened_with, peers_of, same_endpoint, writer_changes, history_of as writer_history, is_behind as is_writer_behind}
+use Rattle.dds_machine.specs.Part.{Matches, Writer, ReaderProxy, opened_with, peers_of, same_endpoint, writer_changes, history_of as writer_history, is_behind as is_writer_behind}
 use Rattle.dds_machine.specs.Ticks.{ticked as writer_ticked}
 use Rattle.dds_protocol.specs.Contact.{Contact}
 use Rattle.dds_base.specs.Checked.{check_refusal, limit_of}
@@ -36,7 +35,6 @@ use Rattle.dds_ends.specs.Identity.{WriterIdentity, writer_identity}
 use Rattle.dds_ends.specs.Matching.{destinations}
 use Rattle.dds_ends.specs.EndNames.{all_names, reader_name, reader_names, topic_name, topic_names}
 use Rattle.dds_ends.specs.MatchCounts.{CountsFor}
-use Rattle.dds_ends.specs.Misfits.{IsTold, MisfitsKept}
 use Rattle.dds_ends.specs.MatchedEnds.{AreNamedOnce, AreRows, first_count, has_count, is_named, last_count, names_of, readers_of, topic_reader}
 use Rattle.dds_ends.specs.OpeningEnds.{OpensWriter}
 use Rattle.dds_ends.specs.Standing.{AreShort, CountsFrom1, IsShort, IsWhole, WriterStands, state_of}
@@ -125,13 +123,12 @@ rows_begun (p ∷ ps) (suc count) same =
 
 pub opens_writer : (first : ℕ) (peers : List PeerConfig) (w : WriterConfig) (known : List TopicName) (es : List ReaderName)
     (ds : List Destination) (names : List ReaderName) (lasts : List LastCount) (matches : MatchCounts) (limit : Option ℕ)
-    (strength : Option ℤ) (kept : Kept) (misfits : MisfitsKept) (count : ℕ) → count ≡ length names
-    → known ≡ topic_names w.topic peers
+    (strength : Option ℤ) (kept : Kept) (count : ℕ) → count ≡ length names → known ≡ topic_names w.topic first peers
     → es ≡ names_of known → CountsFor matches (opened_with (readers_of es)) → lasts ≡ map first_count names
     → ds ≡ destinations w.topic first peers → names ≡ reader_names w.topic first peers → limit ≡ limit_of w.max_samples
     → strength ≡ carried w.ownership w.strength
-    → RtpsStandsFor kept (opening w.history limit w.lease strength count) → IsTold misfits (offered w) no_misfits
-    → OpensWriter peers w
+    → RtpsStandsFor kept (opening w.history limit w.lease strength count)
+    → OpensWriter first peers w
     (record {
       entity = w.entity;
       autodispose = w.autodispose;
@@ -143,13 +140,12 @@ pub opens_writer : (first : ℕ) (peers : List PeerConfig) (w : WriterConfig) (k
       counts = lasts;
       matches = matches;
       writer = kept;
-      misfits = misfits;
     })
-opens_writer peers w known es ds names lasts matches limit strength kept misfits count counted knows named opened first
-    sent matched limited carries stands told =
-    let rows : List ReaderProxy = reliable_readers w.topic 1 peers in
-    let ends : es ≡ all_names w.topic peers = named ∙ names_opened peers w.topic known knows in
-    let matched_are : map (λ (n : ReaderName). n.reader) es ≡ matched_readers w.topic 1 peers =
+opens_writer first peers w known es ds names lasts matches limit strength kept count counted knows named opened nobody sent
+    matched limited carries stands =
+    let rows : List ReaderProxy = reliable_readers w.topic first peers in
+    let ends : es ≡ all_names w.topic first peers = named ∙ names_opened w.topic first peers known knows in
+    let matched_are : map (λ (n : ReaderName). n.reader) es ≡ matched_readers w.topic first peers =
     ap (λ (ns : List ReaderName). readers_of ns) ends
     ∙ map-matched_readers (λ (n : ReaderName). n.reader) reader_name w.topic first peers in
     let many : length (reader_names w.topic first peers) ≡ count =
@@ -200,7 +196,6 @@ opens_writer peers w known es ds names lasts matches limit strength kept misfits
         quiet = λ reader is none. refl;
         counted = λ reader none. never_left names reader ∙ ap (λ (ls : List LastCount). last_count ls reader) (sym nobody);
         matches = subst (λ (rs : List Endpoint). CountsFor matches (opened_with rs)) matched_are opened;
-        misfits = told;
       };
     }
 
@@ -254,8 +249,8 @@ whole_opened first peers w known es ds names limit strength kept count fits know
 
 -- a writer, by what its end has once it is open
 abbrev pub kept_as : EntityId → Bool → ℕ → List TopicName → List ReaderName → List Destination → List ReaderName → List LastCount
-    → MatchCounts → Kept → MisfitsKept → WriterKept
-kept_as entity autodispose most known matched destinations readers counts matches writer misfits = record {
+    → MatchCounts → Kept → WriterKept
+kept_as entity autodispose most known matched destinations readers counts matches writer = record {
   entity = entity;
   autodispose = autodispose;
   max_value = most;
@@ -266,7 +261,6 @@ kept_as entity autodispose most known matched destinations readers counts matche
   counts = counts;
   matches = matches;
   writer = writer;
-  misfits = misfits;
 }
 
 -- what stands for a writer does so under another name
@@ -295,7 +289,6 @@ enters kept entry after more = record {
         counted = s.counted;
         quiet = s.quiet;
         matches = s.matches;
-        misfits = s.misfits;
       };
 }
 
@@ -395,7 +388,6 @@ ticks kept current now after told same more tells = record {
         counted = here.counted;
         quiet = here.quiet;
         matches = here.matches;
-        misfits = here.misfits;
       };
 }
 
@@ -467,6 +459,5 @@ looks_at_matches kept now after view seen =
             subst (λ (n : ℕ). CountsFor after (seen_matches w.matches n))
             (sym (ap (λ (es : List Endpoint). length es) s.matched
             ∙ length-map kept.matched (λ (n : ReaderName). n.reader))) (seen w.matches s.matches);
-        misfits = s.misfits;
       };
     })

@@ -2,14 +2,12 @@
 -- alone cite this: nothing here has to be believed.
 --
 -- RTPS 2.5, 8.4.7.4 (StatefulWriter, matched_reader_add, matched_reader_remove); DDS 1.4, 2.2.3 (DURABILITY: VOLATILE).
-use Rattle.std.specs.Prelude.{◌≡◌, ℕ, ◌==◌, ◌&&◌, ◌||◌, Bool, false, not, if◌then◌else◌, List, [], ◌∷◌, ◌++◌, filter, slice_get, take, Option, Some, None, ℤ}
+use Rattle.std.specs.Prelude.{◌≡◌, ℕ, ◌==◌, ◌&&◌, Bool, false, not, if◌then◌else◌, List, [], ◌∷◌, ◌++◌, filter, slice_get, take, Option, Some, None, ℤ}
 use Rattle.std.specs.List.{list_any}
 use Rattle.std.specs.Option.{option_map_or}
 use Rattle.dds_base.specs.declared.endpoint.Endpoint.{Endpoint}
 use Rattle.dds_base.specs.declared.code.Code.{Code}
-use Rattle.dds_base.specs.declared.policies.Policies.{Policies}
-use Rattle.dds_machine.specs.Fitting.{is_misfit}
-use Rattle.dds_machine.specs.Matching.{is_matched, joined, knows_reliable, left, matching_refusal, missed, was_told_of, writer_looked_at, writer_saw_misfits}
+use Rattle.dds_machine.specs.Matching.{is_matched, joined, knows_reader, knows_reliable, left, matching_refusal, writer_looked_at}
 use Rattle.dds_machine.specs.Part.{ReaderProxy, Writer, same_endpoint}
 use Rattle.dds_protocol.specs.Contact.{Contact}
 use Rattle.dds_protocol.specs.Roster.{Roster}
@@ -71,12 +69,11 @@ pub record ForgetsRow (old : WriterKept) (reader : Endpoint) (new : WriterKept) 
 
 -- why a writer refuses what it is told: that it is matched with the reader from now on ..
 abbrev pub joining_refusal : Writer → Endpoint → Option Code
-joining_refusal w reader =
-    matching_refusal (was_told_of w reader) (is_matched w reader || is_misfit w.misfits reader)
+joining_refusal w reader = matching_refusal (knows_reader w reader) (is_matched w reader)
 
 -- .. or no longer
 abbrev pub leaving_refusal : Writer → Endpoint → Option Code
-leaving_refusal w reader = matching_refusal (was_told_of w reader) (not (is_matched w reader))
+leaving_refusal w reader = matching_refusal (knows_reader w reader) (not (is_matched w reader))
 
 -- so it is for each writer that is stood for
 abbrev pub RefusesSo : (Writer → Endpoint → Option Code) → WriterKept → Endpoint → (Option Code → Type 0) → Type 0
@@ -116,18 +113,6 @@ pub record Joins (old : WriterKept) (reader : Endpoint) (greeted : Bool) (new : 
   pub ends : (roster : Roster) (writer : Endpoint) → AreKnownReaders roster writer old.known
       → AreMatchedNow roster writer old.matched old.destinations old.readers
       → AreMatchedNow roster writer new.matched new.destinations new.readers
-
--- a writer that was told of a reader which asks for these policies, not all of which it offers, and nothing else
-pub record Misses (old : WriterKept) (reader : Endpoint) (requested : Policies) (new : WriterKept) : Type 0 where
-  pub same : writer_identity new ≡ writer_identity old
-  pub stands : (w : Writer) (answered : Endpoint → Contact) → WriterStands old w answered
-      → WriterStands new (missed w reader requested) answered
-
--- a writer at whose misfits the application has looked, and nothing else
-pub record LooksAtMisfits (old new : WriterKept) : Type 0 where
-  pub same : writer_identity new ≡ writer_identity old
-  pub stands : (w : Writer) (answered : Endpoint → Contact) → WriterStands old w answered
-      → WriterStands new (writer_saw_misfits w) answered
 
 -- a writer at whose matches the application has looked, and nothing else
 pub record LooksAtMatches (old new : WriterKept) : Type 0 where

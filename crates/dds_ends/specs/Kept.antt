@@ -5,7 +5,6 @@ use Rattle.std.specs.Prelude.{ℕ, Bool, List}
 use Rattle.dds_base.specs.declared.guid.EntityId.{EntityId}
 use Rattle.rtps_reader.specs.Reader.{Proxies}
 use Rattle.rtps_writer.specs.Standing.{Kept}
-use Rattle.dds_ends.specs.Misfits.{MisfitsKept}
 use Rattle.dds_ends.specs.Stored.{StoreKept}
 use Rattle.dds_machine.specs.Part.{Seen}
 use Rattle.dds_ends.specs.declared.match_counts.MatchCounts.{MatchCounts}
@@ -17,8 +16,8 @@ use Rattle.dds_ends.specs.declared.match_counts.MatchCounts.{MatchCounts}
 use Rattle.dds_ends.specs.declared.matching.WriterName.{WriterName}
 
 -- a writer: how long its values may be, the readers of its topic, its matched readers, to whose peers it sends, the
--- reliable ones by their names, what it keeps of those that were matched before, its matches, what it keeps of its
--- changes and its reliable readers, and the readers that do not fit
+-- reliable ones by their names, what it keeps of those that were matched before, its matches, and what it keeps of its
+-- changes and its reliable readers
 pub record WriterKept : Type 0 where
   pub entity : EntityId
   pub autodispose : Bool
@@ -30,10 +29,9 @@ pub record WriterKept : Type 0 where
   pub counts : List LastCount
   pub matches : MatchCounts
   pub writer : Kept
-  pub misfits : MisfitsKept
 
 -- a reader: the writers of its topic, what it knows of them, what it stores, what was seen of its statuses, its
--- matches, with how many writers it is matched now, and the writers that do not fit
+-- matches, and with how many writers it is matched now
 pub record ReaderKept : Type 0 where
   pub entity : EntityId
   pub writers : List WriterName
@@ -42,4 +40,3 @@ pub record ReaderKept : Type 0 where
   pub seen : Seen
   pub matches : MatchCounts
   pub here : ℕ
-  pub misfits : MisfitsKept

@@ -1,7 +1,6 @@
 pub mod Matching
 pub mod EndNames
 pub mod MatchCounts
-pub mod Misfits
 pub mod Kept
 pub mod MatchedEnds
 pub mod Identity

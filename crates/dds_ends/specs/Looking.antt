@@ -21,9 +21,7 @@ use Rattle.dds_notices.specs.declared.mask.StatusMask.{StatusMask}
 use Rattle.dds_base.specs.declared.endpoint.Endpoint.{Endpoint}
 use Rattle.dds_machine.specs.declared.reply.Reply.{Reply}
 use Rattle.dds_machine.specs.declared.reply.Reply.TheVariants.{Samples, Refused}
-use Rattle.dds_notices.specs.declared.incompatible.IncompatibleQosStatus.{IncompatibleQosStatus}
-use Rattle.dds_machine.specs.Fitting.{misfit_status}
-use Rattle.dds_machine.specs.Matching.{reader_looked_at, reader_saw_misfits, subscription_matched}
+use Rattle.dds_machine.specs.Matching.{reader_looked_at, subscription_matched}
 use Rattle.dds_machine.specs.Part.{Reader, Seen, WriterProxy}
 use Rattle.dds_machine.specs.Watching.{reader_statuses}
 use Rattle.dds_ends.specs.Identity.{reader_identity}
@@ -49,7 +47,6 @@ pub record TakesOnly (old new : ReaderKept) : Type 0 where
   pub seen : new.seen ≡ old.seen
   pub matches : new.matches ≡ old.matches
   pub here : new.here ≡ old.here
-  pub misfits : new.misfits ≡ old.misfits
 
 -- the answer to a look at SAMPLE_LOST, and what is seen then
 abbrev pub TellsLost : ReaderKept → SampleLostStatus → Seen → Type 0
@@ -77,17 +74,6 @@ pub record SeesMatches (old new : ReaderKept) : Type 0 where
   pub same : reader_identity new ≡ reader_identity old
   pub stands : (proxies : List WriterProxy) (r : Reader) (tracked : Endpoint → Tracked)
       → ReaderStands old proxies r tracked → ReaderStands new proxies (reader_looked_at proxies r) tracked
-
--- the answer to a look at REQUESTED_INCOMPATIBLE_QOS
-abbrev pub TellsMisfits : ReaderKept → IncompatibleQosStatus → Type 0
-TellsMisfits kept status = (proxies : List WriterProxy) (r : Reader) (tracked : Endpoint → Tracked)
-    → ReaderStands kept proxies r tracked → status ≡ misfit_status r.misfits
-
--- the reader after that look
-pub record SeesMisfits (old new : ReaderKept) : Type 0 where
-  pub same : reader_identity new ≡ reader_identity old
-  pub stands : (proxies : List WriterProxy) (r : Reader) (tracked : Endpoint → Tracked)
-      → ReaderStands old proxies r tracked → ReaderStands new proxies (reader_saw_misfits r) tracked
 
 -- whether the statuses of a reader are flagged, as it is kept
 abbrev pub TellsFlags : ReaderKept → StatusMask → Type 0

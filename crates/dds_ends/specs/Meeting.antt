@@ -10,8 +10,7 @@ use Rattle.dds_base.specs.declared.code.Code.TheVariants.{OutOfResources}
 use Rattle.dds_base.specs.declared.endpoint.Endpoint.{Endpoint}
 use Rattle.dds_base.specs.declared.qos.MatchedWriter.{MatchedWriter}
 use Rattle.dds_base.specs.Bounds.{max_ends}
-use Rattle.dds_base.specs.declared.policies.Policies.{Policies}
-use Rattle.dds_machine.specs.Matching.{happened_once_met, has_too_many, is_known, is_matched, joined, knowing, knows_too_many, matching_refusal, max_known, meets_reliable, met, reader_joined, reader_met, reader_missed, with_match}
+use Rattle.dds_machine.specs.Matching.{has_too_many, is_matched, knows_too_many, matching_refusal, max_known, meets_reliable, met, reader_met, with_match}
 use Rattle.dds_machine.specs.Part.{Reader, Writer, WriterProxy, how_of, is_attached, same_endpoint}
 use Rattle.dds_protocol.specs.Contact.{Contact}
 use Rattle.rtps_reader.specs.Tracked.{Tracked}
@@ -20,7 +19,7 @@ use Rattle.dds_ends.specs.declared.matching.ReaderName.{ReaderName}
 use Rattle.dds_ends.specs.declared.matching.TopicName.{TopicName}
 use Rattle.dds_ends.specs.declared.matching.WriterName.{WriterName}
 use Rattle.dds_ends.specs.Coming.{matched_anew}
-use Rattle.dds_ends.specs.Identity.{reader_identity, reliable_in}
+use Rattle.dds_ends.specs.Identity.{reliable_in}
 use Rattle.dds_ends.specs.Kept.{ReaderKept, WriterKept}
 use Rattle.dds_ends.specs.MatchedEnds.{AreKnownReaders, AreMatchedNow, is_named, known_as, names_of}
 use Rattle.dds_ends.specs.Standing.{IsFirstRow, ReaderStands, WriterStands}
@@ -58,29 +57,19 @@ meeting_refusal w reader =
     option_or (matching_refusal true (is_matched w reader))
     (if knows_too_many w reader then Some OutOfResources else None)
 
--- a writer that is matched with a reader, and knows it, whatever it had been told of it
-abbrev pub knowing_it : Writer → Endpoint → Bool → Writer
-knowing_it w reader reliable = joined (knowing w reader reliable) reader (meets_reliable w reader reliable)
-
--- A writer that is matched with one reader more, where it was not, and knows it from now on; and nothing else: it is then
--- as this says. Whom the writer is matched with is known, where those that it knows then are readers that the roster
--- matches with it.
-pub record MeetsSo (after : Writer → Endpoint → Bool → Writer) (old : WriterKept) (name : ReaderName)
-    (reliable greeted : Bool) (new : WriterKept) : Type 0 where
+-- A writer that is matched with one reader more, where it was not, and knows it from now on; and nothing else. Whom the
+-- writer is matched with is known, where those that it knows then are readers that the roster matches with it.
+pub record Meets (old : WriterKept) (name : ReaderName) (reliable greeted : Bool) (new : WriterKept) : Type 0 where
   pub entity : new.entity ≡ old.entity
   pub autodispose : new.autodispose ≡ old.autodispose
   pub max_value : new.max_value ≡ old.max_value
   pub known : new.known ≡ with_known old.known name reliable
   pub stands : (w : Writer) (answered : Endpoint → Contact) → WriterStands old w answered
-      → WriterStands new (after w name.reader reliable)
+      → WriterStands new (met w name.reader reliable)
       (matched_anew answered name.reader (greeted && meets_reliable w name.reader reliable))
   pub ends : (roster : Roster) (writer : Endpoint) → AreKnownReaders roster writer new.known
       → AreMatchedNow roster writer old.matched old.destinations old.readers
       → AreMatchedNow roster writer new.matched new.destinations new.readers
-
--- it fits, besides
-abbrev pub Meets : WriterKept → ReaderName → Bool → Bool → WriterKept → Type 0
-Meets old name reliable greeted new = MeetsSo met old name reliable greeted new
 
 -- ---- at a reader
 
@@ -103,29 +92,13 @@ abbrev pub RefusesWriterSo : ReaderKept → Endpoint → (Option Code → Type 0
 RefusesWriterSo kept writer P = (proxies : List WriterProxy) (r : Reader) (tracked : Endpoint → Tracked)
     → ReaderStands kept proxies r tracked → P (writer_meeting_refusal proxies writer)
 
--- a reader, which knows these writers, that is matched with a writer, and knows it, whatever it had been told of it
-abbrev pub knowing_writer : List WriterProxy → Reader → Endpoint → MatchedWriter → Reader
-knowing_writer rows r writer as_writer =
-    record (reader_joined r writer) { happened = happened_once_met (is_known rows writer) as_writer r.happened }
-
--- A reader that is matched with this writer, where it was not, and knows it from now on, by this row; and nothing else: it
--- is then as this says.
-pub record MeetsWriterSo (after : List WriterProxy → Reader → Endpoint → MatchedWriter → Reader) (old : ReaderKept)
-    (name : WriterName) (as_writer : MatchedWriter) (row : ℕ) (new : ReaderKept) : Type 0 where
+-- A reader that is matched with this writer, where it was not, and knows it from now on, by this row; and nothing else.
+pub record MeetsWriter (old : ReaderKept) (name : WriterName) (as_writer : MatchedWriter) (row : ℕ) (new : ReaderKept)
+    : Type 0 where
   pub entity : new.entity ≡ old.entity
   pub reliable : reliable_in new.store ≡ reliable_in old.store
   pub writers : new.writers ≡ with_row_of old.writers name
   pub stands : (proxies : List WriterProxy) (r : Reader) (tracked : Endpoint → Tracked)
       → ReaderStands old proxies r tracked
-      → ReaderStands new (with_match proxies name.writer) (after proxies r name.writer as_writer) tracked
+      → ReaderStands new (with_match proxies name.writer) (reader_met proxies r name.writer as_writer) tracked
   pub at : IsFirstRow new.writers name.writer row
-
--- it fits, besides
-abbrev pub MeetsWriter : ReaderKept → WriterName → MatchedWriter → ℕ → ReaderKept → Type 0
-MeetsWriter old name as_writer row new = MeetsWriterSo reader_met old name as_writer row new
-
--- a reader that was told of a writer which offers these policies, less than it asks for, and nothing else
-pub record MissesWriter (old : ReaderKept) (writer : Endpoint) (offered : Policies) (new : ReaderKept) : Type 0 where
-  pub same : reader_identity new ≡ reader_identity old
-  pub stands : (proxies : List WriterProxy) (r : Reader) (tracked : Endpoint → Tracked)
-      → ReaderStands old proxies r tracked → ReaderStands new proxies (reader_missed r writer offered) tracked

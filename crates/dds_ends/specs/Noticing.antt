@@ -4,15 +4,14 @@
 -- DDS 1.4, 2.2.4.1 (communication statuses), 2.2.4.2 (changes in status).
 use Rattle.std.specs.Prelude.{◌≡◌, ℕ, ◌<◌, ◌≤◌, List, length, slice_get, Option, Some}
 use Rattle.dds_notices.specs.declared.notice.Status.{Status}
-use Rattle.dds_notices.specs.declared.notice.Status.TheVariants.{OfferedIncompatibleQos, PublicationMatched, RequestedIncompatibleQos, SubscriptionMatched}
+use Rattle.dds_notices.specs.declared.notice.Status.TheVariants.{PublicationMatched, SubscriptionMatched}
 use Rattle.dds_base.specs.Written.{LookedAt}
 use Rattle.dds_machine.specs.Calls.{with_written}
-use Rattle.dds_machine.specs.Fitting.{told_times}
-use Rattle.dds_machine.specs.Matching.{writer_looked_at, writer_saw_misfits}
+use Rattle.dds_machine.specs.Matching.{writer_looked_at}
 use Rattle.dds_ends.specs.Identity.{writer_identity}
 use Rattle.rtps_reader.specs.Tracked.{Tracked}
 use Rattle.dds_base.specs.declared.endpoint.Endpoint.{Endpoint}
-use Rattle.dds_machine.specs.Matching.{attached_count, reader_looked_at, reader_saw_misfits}
+use Rattle.dds_machine.specs.Matching.{attached_count, reader_looked_at}
 use Rattle.dds_machine.specs.Noticing.{losses_of, seen_by}
 use Rattle.dds_machine.specs.Part.{Reader, Writer, WriterProxy}
 use Rattle.dds_protocol.specs.Contact.{Contact}
@@ -22,24 +21,20 @@ use Rattle.dds_ends.specs.declared.marks.WriterMark.{WriterMark}
 use Rattle.dds_ends.specs.Kept.{ReaderKept, WriterKept}
 use Rattle.dds_ends.specs.Standing.{ReaderStands, WriterStands}
 
--- a mark of a reader that knew these writers: how much had happened, how many it was matched with, and how often it had
--- been told of one that does not fit
+-- a mark of a reader that knew these writers: how much had happened, and how many it was matched with
 pub record IsMarkOf (mark : ReaderMark) (rows : List WriterProxy) (r : Reader) : Type 0 where
   pub happened : mark.happened ≡ length r.happened
   pub here : mark.here ≡ attached_count rows
-  pub misfits : mark.misfits ≡ told_times (length r.misfits.told)
 
 -- so it is of each reader that the values stand for
 abbrev pub MarksReader : ReaderKept → ReaderMark → Type 0
 MarksReader kept mark = (proxies : List WriterProxy) (r : Reader) (tracked : Endpoint → Tracked)
     → ReaderStands kept proxies r tracked → IsMarkOf mark proxies r
 
--- a mark of a writer: how often its liveliness was lost, how many readers were matched with it, and how often it had been
--- told of one that does not fit
+-- a mark of a writer: how often its liveliness was lost, and how many readers were matched with it
 pub record IsWriterMarkOf (mark : WriterMark) (w : Writer) : Type 0 where
   pub losses : mark.losses ≡ losses_of w
   pub matched : mark.matched ≡ length w.matched
-  pub misfits : mark.misfits ≡ told_times (length w.misfits.told)
 
 -- so it is of each writer that the values stand for
 abbrev pub MarksWriter : WriterKept → WriterMark → Type 0
@@ -53,11 +48,11 @@ Marked {K} {M} Marks nothing kept n marks = (i : ℕ) (mark : M) → slice_get m
 
 -- the first so many of these writers are marked, the others by zeros
 abbrev pub MarksWriters : List WriterKept → ℕ → List WriterMark → Type 0
-MarksWriters kept n marks = Marked MarksWriter (record { losses = 0; matched = 0; misfits = 0 }) kept n marks
+MarksWriters kept n marks = Marked MarksWriter (record { losses = 0; matched = 0 }) kept n marks
 
 -- the first so many of these readers are marked, the others by zeros
 abbrev pub MarksReaders : List ReaderKept → ℕ → List ReaderMark → Type 0
-MarksReaders kept n marks = Marked MarksReader (record { happened = 0; here = 0; misfits = 0 }) kept n marks
+MarksReaders kept n marks = Marked MarksReader (record { happened = 0; here = 0 }) kept n marks
 
 -- what was raised at a reader, by the writers that it knew and what it was before, and by those and what it is now
 abbrev pub Raised : Type 0
@@ -75,7 +70,6 @@ RaisesSo raised kept mark status = (known : List WriterProxy) (before : Reader) 
 
 -- a reader that knows these writers, once a status of it was looked at
 abbrev pub seen_at : List WriterProxy → Reader → Status → Reader
-seen_at rows r (RequestedIncompatibleQos values) = reader_saw_misfits r
 seen_at rows r (SubscriptionMatched values) = reader_looked_at rows r
 seen_at rows r status = record r { seen = seen_by r status }
 
@@ -92,7 +86,6 @@ WriterRaisesSo raised kept mark status = (before : Writer) → IsWriterMarkOf ma
 
 -- the writer, once this status of it was looked at
 abbrev pub writer_seen_by : Writer → Status → Writer
-writer_seen_by w (OfferedIncompatibleQos values) = writer_saw_misfits w
 writer_seen_by w (PublicationMatched values) = writer_looked_at w
 writer_seen_by w other = with_written w LookedAt
 

@@ -183,7 +183,6 @@ pub record IsAlike (old new : ReaderKept) : Type 0 where
   pub seen : new.seen ≡ old.seen
   pub matches : new.matches ≡ old.matches
   pub here : new.here ≡ old.here
-  pub misfits : new.misfits ≡ old.misfits
   pub holds : (h : List Happening) → Holds old.store h → Holds new.store h
 
 -- the reader can be told what is ready
@@ -219,7 +218,6 @@ pub record SameReader (old new : ReaderKept) : Type 0 where
   pub seen : new.seen ≡ old.seen
   pub matches : new.matches ≡ old.matches
   pub here : new.here ≡ old.here
-  pub misfits : new.misfits ≡ old.misfits
 
 -- the reader was told, at this moment
 pub record TakesTold (old : ReaderKept) (ready : Ready) (moment : ℕ) (step : Step) (new : ReaderKept) : Type 0 where

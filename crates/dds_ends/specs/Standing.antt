@@ -28,7 +28,6 @@ use Rattle.dds_ends.specs.declared.matching.WriterName.{WriterName}
 use Rattle.dds_ends.specs.Storing.{Holds}
 use Rattle.dds_ends.specs.Kept.{WriterKept, ReaderKept}
 use Rattle.dds_ends.specs.MatchCounts.{CountsFor}
-use Rattle.dds_ends.specs.Misfits.{IsTold}
 use Rattle.dds_ends.specs.MatchedEnds.{AreAmong, AreNamedOnce, AreRows, is_named, last_count, names_of, readers_of, topic_reader}
 
 -- the state of a writer of the machine, with what it knows of each matched reader by its ACKNACKs
@@ -70,7 +69,6 @@ pub record WriterStands (kept : WriterKept) (w : Writer) (answered : Endpoint �
       → (answered reader).count ≡ last_count kept.counts reader
   pub quiet : AreQuiet kept.matched kept.readers answered
   pub matches : CountsFor kept.matches w.matches
-  pub misfits : IsTold kept.misfits w.offered w.misfits
 
 -- a value has at most so many octets, and no more than a datagram takes
 abbrev pub IsShort : ℕ → List ℕ → Type 0
@@ -138,7 +136,6 @@ pub record ReaderStands (kept : ReaderKept) (proxies : List WriterProxy) (r : Re
   pub hows : (w : Endpoint) (k : ℕ) → IsFirstRow kept.writers w k → how_of proxies w ≡ stood_as (how_at kept.reader k)
   pub counts : CountsFor kept.matches r.matches
   pub here_is : kept.here ≡ attached_count proxies
-  pub misfits : IsTold kept.misfits r.requested r.misfits
 
 -- each of a peer's writers stands for the one of its number, with what it knows of its readers
 pub record WritersStand (kept : List WriterKept) (ws : List Writer) (answered : ℕ → Endpoint → Contact) : Type 0 where

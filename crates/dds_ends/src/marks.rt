@@ -11,13 +11,11 @@ use crate::reader_end::ReaderEnd;
 use crate::writer_end::WriterEnd;
 use dds_base::MAX_ENDS;
 
-/// Of a reader: how much had happened, how many writers it was matched with, and how often it was told of one that does not
-/// fit.
+/// Of a reader: how much had happened, and how many writers it was matched with.
 #[derive(Clone, Copy)]
 pub struct ReaderMark {
     pub happened: u64,
     pub here: u32,
-    pub misfits: u64,
 }
 
 impl ReaderMark {
@@ -25,17 +23,14 @@ impl ReaderMark {
     pub const NOTHING: ReaderMark = ReaderMark {
         happened: 0,
         here: 0,
-        misfits: 0,
     };
 }
 
-/// Of a writer: how often its liveliness was lost, how many readers were matched with it, and how often it was told of one
-/// that does not fit.
+/// Of a writer: how often its liveliness was lost, and how many readers were matched with it.
 #[derive(Clone, Copy)]
 pub struct WriterMark {
     pub losses: u64,
     pub matched: u32,
-    pub misfits: u64,
 }
 
 impl WriterMark {
@@ -43,7 +38,6 @@ impl WriterMark {
     pub const NOTHING: WriterMark = WriterMark {
         losses: 0,
         matched: 0,
-        misfits: 0,
     };
 }
 

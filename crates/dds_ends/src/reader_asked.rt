@@ -195,7 +195,6 @@ impl ReaderEnd {
         ReaderMark {
             happened: self.store.happened(),
             here: self.here,
-            misfits: self.misfits.told(),
         }
     }
 
@@ -273,9 +272,6 @@ impl ReaderEnd {
         ensures same { reader_identity self.new ≡ reader_identity self.old }
     {
         match status {
-            Status::RequestedIncompatibleQos(_) => {
-                let _ = self.get_requested_incompatible_qos();
-            }
             Status::SampleLost(_) => {
                 let _ = self.get_sample_lost();
             }
@@ -287,9 +283,7 @@ impl ReaderEnd {
                 let _ = self.get_subscription_matched();
             }
             // A reader has none of these.
-            Status::OfferedIncompatibleQos(_)
-            | Status::LivelinessLost(_)
-            | Status::PublicationMatched(_) => {}
+            Status::LivelinessLost(_) | Status::PublicationMatched(_) => {}
         }
     }
 
@@ -299,17 +293,15 @@ impl ReaderEnd {
     pub fn status_changes(&self) -> StatusMask
         ensures { TellsFlags self.now result }
     {
-        let unfit = self.misfits.is_flagged();
         let lost = is_after(self.seen.entries_at_lost, self.store.passed());
         let came = is_after(self.seen.entries_at_data, self.store.data_at());
         let turned = is_after(self.seen.entries_at_turn, self.store.turned());
         let matched = self.matches.is_flagged(self.here as usize);
         StatusMask::from_bits_retain(
-            bit_if(unfit, StatusMask::REQUESTED_INCOMPATIBLE_QOS)
-                + (bit_if(lost, StatusMask::SAMPLE_LOST)
-                    + (bit_if(came, StatusMask::DATA_AVAILABLE)
-                        + (bit_if(turned, StatusMask::LIVELINESS_CHANGED)
-                            + bit_if(matched, StatusMask::SUBSCRIPTION_MATCHED)))),
+            bit_if(lost, StatusMask::SAMPLE_LOST)
+                + (bit_if(came, StatusMask::DATA_AVAILABLE)
+                    + (bit_if(turned, StatusMask::LIVELINESS_CHANGED)
+                        + bit_if(matched, StatusMask::SUBSCRIPTION_MATCHED))),
         )
     }
 

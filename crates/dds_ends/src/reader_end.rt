@@ -15,7 +15,6 @@ ghost use Rattle.dds_protocol.specs.Claims.{is_for};
 use crate::limits::limit_of;
 use crate::match_counts::MatchCounts;
 use crate::matching::{MatchedWriters, WriterName, matched_writers};
-use crate::misfits::Misfits;
 use crate::receiver::{MessageReceiver, is_for};
 use crate::seen::Seen;
 use crate::store::Store;
@@ -38,8 +37,6 @@ pub struct ReaderEnd {
     pub(crate) matches: MatchCounts,
     /// How many writers it is matched with.
     pub(crate) here: u32,
-    /// The writers that do not fit, by what it asks for.
-    pub(crate) misfits: Misfits,
 }
 
 impl Model for ReaderEnd {
@@ -56,7 +53,6 @@ impl Model for ReaderEnd {
       seen = r.seen;
       matches = r.matches;
       here = r.here;
-      misfits = r.misfits;
     } };
 
     ghost invariant = { λ r. FitsWriters r.writers.items r.reader r.store r.is_reliable };
@@ -114,7 +110,6 @@ impl ReaderEnd {
         let Ok(store) = Store::open(alloc, qos) else {
             return Err(AllocError);
         };
-        let misfits = Misfits::none(alloc, config.requested());
         Ok(ReaderEnd {
             alloc,
             entity: config.entity,
@@ -125,7 +120,6 @@ impl ReaderEnd {
             seen: Seen::NOTHING,
             matches,
             here: here as u32,
-            misfits,
         })
     }
 

@@ -10,7 +10,7 @@ ghost use Rattle.dds_machine.specs.Matching.{max_known};
 ghost use Rattle.dds_machine.specs.Part.{Reader, WriterProxy, how_of, is_attached};
 ghost use Rattle.rtps_reader.specs.Tracked.{Tracked};
 ghost use Rattle.dds_ends.specs.Knowing.{KnowsMore};
-ghost use Rattle.dds_ends.specs.Meeting.{MeetsWriter, MeetsWriterSo, RefusesWriterSo, knowing_writer};
+ghost use Rattle.dds_ends.specs.Meeting.{MeetsWriter, RefusesWriterSo};
 ghost use Rattle.dds_ends.specs.Parting.{Attaches, Detaches, IsPastParting, joined_here, left_here};
 ghost use Rattle.dds_ends.specs.Standing.{IsFirstRow, ReaderStands};
 
@@ -108,15 +108,18 @@ impl ReaderEnd {
         None
     }
 
-    /// The reader is matched with this writer from now on, which it may not know, whatever it had been told of it; gives
-    /// the row.
+    /// The reader is matched with this writer from now on, which it may not know; gives the row. One that it knows keeps
+    /// its row, its name and what was announced of it; one that it does not know has the last row.
     ///
     /// # Errors
     ///
-    /// As of `meet`.
-    fn learn(&mut self, name: WriterName, as_writer: MatchedWriter) -> Result<usize, Code>
-        ensures ok { IfOk result
-            (λ row. MeetsWriterSo knowing_writer self.old name as_writer row self.new) }
+    /// `PreconditionNotMet` where it is matched with that one, `OutOfResources` where it does not know that one and knows
+    /// 2^31 - 1, `Memory` where a growth was refused, or more than 2^64 - 1 entries would have happened; the reader is
+    /// then as it was.
+    ///
+    /// RTPS 2.5, 8.4.10.3 (matched_writer_add).
+    pub fn meet(&mut self, name: WriterName, as_writer: MatchedWriter) -> Result<usize, Code>
+        ensures ok { IfOk result (λ row. MeetsWriter self.old name as_writer row self.new) }
         ensures few { IfOk result (λ row. row < max_known) }
         ensures accepted { OnOk result
             (RefusesWriterSo self.old name.writer (λ refusal. refusal ≡ None)) }
@@ -136,30 +139,6 @@ impl ReaderEnd {
             return Err(Code::PreconditionNotMet);
         }
         self.attach(row);
-        Ok(row)
-    }
-
-    /// The reader is matched with this writer from now on, which it may not know, and which fits; gives the row. One that
-    /// it knows keeps its row, its name and what was announced of it; one that it does not know has the last row.
-    ///
-    /// # Errors
-    ///
-    /// `PreconditionNotMet` where it is matched with that one, `OutOfResources` where it does not know that one and knows
-    /// 2^31 - 1, `Memory` where a growth was refused, or more than 2^64 - 1 entries would have happened; the reader is
-    /// then as it was.
-    ///
-    /// RTPS 2.5, 8.4.10.3 (matched_writer_add).
-    pub fn meet(&mut self, name: WriterName, as_writer: MatchedWriter) -> Result<usize, Code>
-        ensures ok { IfOk result (λ row. MeetsWriter self.old name as_writer row self.new) }
-        ensures few { IfOk result (λ row. row < max_known) }
-        ensures accepted { OnOk result
-            (RefusesWriterSo self.old name.writer (λ refusal. refusal ≡ None)) }
-        ensures refused { IfErr result
-            (λ code. RefusesWriterSo self.old name.writer (λ refusal. Refuses refusal code)) }
-        ensures err { OnErr result (self.new ≡ self.old) }
-    {
-        let row = self.learn(name, as_writer)?;
-        self.misfits.fit(name.writer);
         Ok(row)
     }
 

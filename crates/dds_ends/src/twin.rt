@@ -37,8 +37,6 @@ fn plain_again(alloc: Global, reply: &Reply) -> Reply
         Reply::LivelinessChanged(status) => Reply::LivelinessChanged(*status),
         Reply::LivelinessLost(status) => Reply::LivelinessLost(*status),
         Reply::Matched(status) => Reply::Matched(*status),
-        Reply::Incompatible(unfit) => Reply::Incompatible(*unfit),
-        Reply::IncompatibleQos(status) => Reply::IncompatibleQos(*status),
         Reply::Created(number) => Reply::Created(*number),
         Reply::TriggerValue(value) => Reply::TriggerValue(*value),
         Reply::Waiting => Reply::Waiting,

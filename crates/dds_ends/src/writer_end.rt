@@ -42,7 +42,6 @@ use crate::matching::{
     Destination, LastCount, ReaderName, TopicName, destinations, first_counts, names_of,
     reliable_readers, topic_names,
 };
-use crate::misfits::Misfits;
 use crate::receiver::MessageReceiver;
 use crate::sending::{Announced, Sender, announce};
 use crate::status_bits::bit_if;
@@ -76,8 +75,6 @@ pub struct WriterEnd {
     pub(crate) counts: Vec<LastCount>,
     pub(crate) matches: MatchCounts,
     pub(crate) writer: StatefulWriter,
-    /// The readers that do not fit, by what it offers.
-    pub(crate) misfits: Misfits,
 }
 
 impl Model for WriterEnd {
@@ -98,7 +95,6 @@ impl Model for WriterEnd {
       counts = w.counts.items;
       matches = w.matches;
       writer = w.writer;
-      misfits = w.misfits;
     } };
 
     ghost invariant = { λ w. IsWhole w.max_value w.known.items w.matched.items w.destinations.items
@@ -127,7 +123,6 @@ impl WriterEnd {
         let strength = config.carried_strength();
         let reliable = readers.len();
         let matches = MatchCounts::with_readers(matched.as_slice());
-        let misfits = Misfits::none(alloc, config.offered());
         let opened = StatefulWriter::open(alloc, history, limit, lease, strength, reliable);
         let Ok(writer) = opened else {
             return Err(AllocError);
@@ -143,7 +138,6 @@ impl WriterEnd {
             counts,
             matches,
             writer,
-            misfits,
         })
     }
 
@@ -303,14 +297,13 @@ impl WriterEnd {
 
     /// What its statuses say, by which is known what an event raised.
     ///
-    /// DDS 1.4, 2.2.4.1 (LIVELINESS_LOST, OFFERED_INCOMPATIBLE_QOS, PUBLICATION_MATCHED).
+    /// DDS 1.4, 2.2.4.1 (LIVELINESS_LOST, PUBLICATION_MATCHED).
     pub fn mark(&self) -> WriterMark
         ensures { MarksWriter self.now result }
     {
         WriterMark {
             losses: self.liveliness_lost().total_count,
             matched: self.matched.len() as u32,
-            misfits: self.misfits.told(),
         }
     }
 
@@ -345,16 +338,10 @@ impl WriterEnd {
     pub fn see(&mut self, status: &Status)
         ensures { WriterSeesStatus self.old status.now self.new }
     {
-        match status {
-            Status::OfferedIncompatibleQos(_) => {
-                let _ = self.get_offered_incompatible_qos();
-            }
-            Status::PublicationMatched(_) => {
-                let _ = self.get_publication_matched();
-            }
-            _ => {
-                let _ = self.get_liveliness_lost();
-            }
+        if let Status::PublicationMatched(_) = status {
+            let _ = self.get_publication_matched();
+        } else {
+            let _ = self.get_liveliness_lost();
         }
     }
 
@@ -377,12 +364,10 @@ impl WriterEnd {
         ensures { (w : Writer) (answered : EndpointOf → Contact) → WriterStands self.now w answered
             → result ≡ writer_statuses w }
     {
-        let is_unfit = self.misfits.is_flagged();
-        let unfit = bit_if(is_unfit, StatusMask::OFFERED_INCOMPATIBLE_QOS);
         let lost = bit_if(self.writer.is_lost(), StatusMask::LIVELINESS_LOST);
         let is_flagged = self.matches.is_flagged(self.matched.len());
         let matched = bit_if(is_flagged, StatusMask::PUBLICATION_MATCHED);
-        StatusMask::from_bits_retain(unfit + (lost + matched))
+        StatusMask::from_bits_retain(lost + matched)
     }
 
     /// Registers an instance.
@@ -607,7 +592,6 @@ impl WriterEnd {
             sent.new }
         ensures same { writer_identity self.new ≡ writer_identity self.old }
         ensures matches { self.new.matches ≡ self.old.matches }
-        ensures misfits { self.new.misfits ≡ self.old.misfits }
         ensures few { sent.new.unsent ≤ sent.old.unsent + window_width }
         ensures messages { AreMessages sent.old.packets.items → AreMessages sent.new.packets.items }
     {

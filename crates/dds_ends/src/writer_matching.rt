@@ -2,16 +2,11 @@
 //!
 //! RTPS 2.5, 8.4.7.4 (StatefulWriter, matched_reader_add, matched_reader_remove).
 
-ghost use Rattle.std.specs.Prelude.{◌≡◌, ◌≢◌, if◌then◌else◌, None, IfErr, OnOk, OnErr};
-ghost use Rattle.dds_base.specs.declared.code.Code.TheVariants.{BadParameter, Memory, PreconditionNotMet};
-ghost use Rattle.dds_base.specs.declared.endpoint.Endpoint.{Endpoint as EndpointOf};
+ghost use Rattle.std.specs.Prelude.{◌≡◌, ◌≢◌, None, IfErr, OnOk, OnErr};
+ghost use Rattle.dds_base.specs.declared.code.Code.TheVariants.{Memory};
 ghost use Rattle.dds_base.specs.Refusal.{Refuses};
-ghost use Rattle.dds_machine.specs.Fitting.{is_misfit};
-ghost use Rattle.dds_machine.specs.Part.{Writer};
-ghost use Rattle.dds_protocol.specs.Contact.{Contact};
-ghost use Rattle.dds_ends.specs.Standing.{WriterStands};
 ghost use Rattle.dds_ends.specs.Coming.{ForgetsRow, Joins, Leaves, RefusesSo, joining_refusal, leaving_refusal};
-ghost use Rattle.dds_ends.specs.Meeting.{MayMeet, Meets, MeetsSo, knowing_it, learned, meeting_refusal};
+ghost use Rattle.dds_ends.specs.Meeting.{MayMeet, Meets, learned, meeting_refusal};
 
 use crate::coming::{add_known, add_peer, add_row, is_full, remove_name, set_count, set_peers};
 use crate::matched_rows::row_among;
@@ -30,20 +25,6 @@ impl WriterEnd {
         let count = self.writer.leave(row);
         let _ = self.readers.remove(row);
         set_count(self.counts.as_mut_slice(), reader, count);
-    }
-
-    /// Why it is not told of a match with this reader, which it does not know: it does not fit, or is none of its topic.
-    fn unknown_cause(&self, reader: Endpoint) -> Code
-        ensures cause { (w : Writer) (answered : EndpointOf → Contact) → WriterStands self.now w answered
-            → result
-            ≡ (if is_misfit w.misfits reader then PreconditionNotMet else BadParameter) }
-        ensures no_memory { result ≢ Memory }
-    {
-        if self.is_misfit(reader) {
-            Code::PreconditionNotMet
-        } else {
-            Code::BadParameter
-        }
     }
 
     /// It is told that a reader has left: it has nothing more of that one, and what that one alone had not acknowledged
@@ -66,7 +47,7 @@ impl WriterEnd {
         ensures err { OnErr result (self.new ≡ self.old) }
     {
         let Some(_) = self.knows(reader) else {
-            return Err(self.unknown_cause(reader));
+            return Err(Code::BadParameter);
         };
         if !self.is_matched(reader) {
             return Err(Code::PreconditionNotMet);
@@ -115,8 +96,8 @@ impl WriterEnd {
     ///
     /// # Errors
     ///
-    /// `BadParameter` for a reader that is none of its topic, `PreconditionNotMet` where it is matched with that one, or
-    /// that one does not fit, `Memory` where a growth was refused; the writer is then as it was.
+    /// `BadParameter` for a reader that is none of its topic, `PreconditionNotMet` where it is matched with that one,
+    /// `Memory` where a growth was refused; the writer is then as it was.
     ///
     /// RTPS 2.5, 8.4.7.4 (StatefulWriter, matched_reader_add); DDS 1.4, 2.2.3 (DURABILITY: VOLATILE).
     pub fn join(&mut self, reader: Endpoint, greeted: bool) -> Result<(), Code>
@@ -128,12 +109,9 @@ impl WriterEnd {
         ensures err { OnErr result (self.new ≡ self.old) }
     {
         let Some(known) = self.knows(reader) else {
-            return Err(self.unknown_cause(reader));
+            return Err(Code::BadParameter);
         };
         if self.is_matched(reader) {
-            return Err(Code::PreconditionNotMet);
-        }
-        if self.is_misfit(reader) {
             return Err(Code::PreconditionNotMet);
         }
         self.attach(known, greeted)
@@ -162,13 +140,18 @@ impl WriterEnd {
         None
     }
 
-    /// It is matched from now on with a reader that it may not know, and knows it, whatever it had been told of it.
+    /// It is told that it is matched from now on with a reader that it may not know: the reader of this name, of its
+    /// topic, which is reliable or not. It is told of it as by `join`, and knows it from now on. Of a reader that it
+    /// knows it keeps the name, and whether that one is reliable.
     ///
     /// # Errors
     ///
-    /// As of `meet`.
-    fn learn(&mut self, name: ReaderName, is_reliable: bool, greeted: bool) -> Result<(), Code>
-        ensures ok { OnOk result (MeetsSo knowing_it self.old name is_reliable greeted self.new) }
+    /// `PreconditionNotMet` where it is matched with the reader, `OutOfResources` where it does not know it, and knows 16
+    /// others of its participant, or 2^31 - 1 in all, `Memory` where a growth was refused; the writer is then as it was.
+    ///
+    /// RTPS 2.5, 8.4.7.4 (StatefulWriter, matched_reader_add); DDS 1.4, 2.2.3 (DURABILITY: VOLATILE).
+    pub fn meet(&mut self, name: ReaderName, is_reliable: bool, greeted: bool) -> Result<(), Code>
+        ensures ok { OnOk result (Meets self.old name is_reliable greeted self.new) }
         ensures accepted { OnOk result
             (RefusesSo meeting_refusal self.old name.reader (λ refusal. refusal ≡ None)) }
         ensures refused { IfErr result
@@ -185,28 +168,5 @@ impl WriterEnd {
             return Err(Code::OutOfResources);
         }
         self.attach(TopicName { name, is_reliable }, greeted)
-    }
-
-    /// It is told that it is matched from now on with a reader that it may not know, and that fits: the reader of this
-    /// name, of its topic, which is reliable or not. It is told of it as by `join`, and knows it from now on. Of a reader
-    /// that it knows it keeps the name, and whether that one is reliable.
-    ///
-    /// # Errors
-    ///
-    /// `PreconditionNotMet` where it is matched with the reader, `OutOfResources` where it does not know it, and knows 16
-    /// others of its participant, or 2^31 - 1 in all, `Memory` where a growth was refused; the writer is then as it was.
-    ///
-    /// RTPS 2.5, 8.4.7.4 (StatefulWriter, matched_reader_add); DDS 1.4, 2.2.3 (DURABILITY: VOLATILE).
-    pub fn meet(&mut self, name: ReaderName, is_reliable: bool, greeted: bool) -> Result<(), Code>
-        ensures ok { OnOk result (Meets self.old name is_reliable greeted self.new) }
-        ensures accepted { OnOk result
-            (RefusesSo meeting_refusal self.old name.reader (λ refusal. refusal ≡ None)) }
-        ensures refused { IfErr result
-            (λ code. RefusesSo meeting_refusal self.old name.reader (λ refusal. Refuses refusal code)) }
-        ensures err { OnErr result (self.new ≡ self.old) }
-    {
-        self.learn(name, is_reliable, greeted)?;
-        self.misfits.fit(name.reader);
-        Ok(())
     }
 }

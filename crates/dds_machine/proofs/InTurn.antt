@@ -1,15 +1,10 @@
 -- The statuses of an entity are told in turn: each of these is one telling of `reader_told` or `writer_told`.
 use Rattle.std.specs.Prelude.{ℕ}
 use Rattle.dds_base.specs.declared.entity.Entity.TheVariants as entity
-use Rattle.dds_machine.specs.Noticing.{data_raised, loss_raised, lost_raised, offered_raised, publication_raised, requested_raised, subscription_raised, told, turn_raised}
+use Rattle.dds_machine.specs.Noticing.{data_raised, loss_raised, lost_raised, publication_raised, subscription_raised, told, turn_raised}
 use Rattle.dds_machine.specs.Part.{Part, own_proxies, own_reader, own_writer}
 
--- REQUESTED_INCOMPATIBLE_QOS of the reader of this number, if it was raised since the part was as before
-abbrev pub requested_told : Part → ℕ → Part → Part
-requested_told before n part =
-    told part (entity.Reader n) (requested_raised (own_reader before n) (own_reader part n))
-
--- its SAMPLE_LOST
+-- SAMPLE_LOST of the reader of this number, if it was raised since the part was as before
 abbrev pub lost_told : Part → ℕ → Part → Part
 lost_told before n part = told part (entity.Reader n) (lost_raised (own_reader before n) (own_reader part n))
 
@@ -26,11 +21,7 @@ abbrev pub subscription_told : Part → ℕ → Part → Part
 subscription_told before n part = told part (entity.Reader n)
     (subscription_raised (own_proxies before n) (own_proxies part n) (own_reader part n))
 
--- OFFERED_INCOMPATIBLE_QOS of the writer of this number
-abbrev pub offered_told : Part → ℕ → Part → Part
-offered_told before n part = told part (entity.Writer n) (offered_raised (own_writer before n) (own_writer part n))
-
--- its LIVELINESS_LOST
+-- LIVELINESS_LOST of the writer of this number
 abbrev pub loss_told : Part → ℕ → Part → Part
 loss_told before n part = told part (entity.Writer n) (loss_raised (own_writer before n) (own_writer part n))
 

@@ -5,4 +5,3 @@ mod WorkedNotices
 mod WorkedConditions
 mod WorkedMatching
 mod WorkedMeeting
-mod WorkedFitting

@@ -23,7 +23,7 @@ use Rattle.dds_machine.specs.declared.call.Call.TheVariants as call
 use Rattle.dds_machine.specs.declared.event.WorldEvent.TheVariants as event
 use Rattle.dds_machine.specs.declared.reply.Reply.TheVariants as reply
 use Rattle.dds_machine.specs.Noticing.{at_end, machine_ended, machine_with_place, told_of}
-use Rattle.dds_machine.specs.Part.{Begun, Part, Seen, opened_with, no_misfits, no_policies, no_writer, nothing_seen, own_reader, no_names}
+use Rattle.dds_machine.specs.Part.{Begun, Part, Seen, opened_with, no_writer, nothing_seen, own_reader, no_names}
 use Rattle.dds_machine.specs.Passing.{passed_at}
 use Rattle.dds_machine.specs.Watching.{Tests, status_changes}
 use Rattle.dds_machine.specs.Calls.{CallStep, lost_at}
@@ -50,11 +50,9 @@ part written seen happened places = record {
     readers = record {
       qos = record
           { ownership = Shared; reliability = Reliable; history = KeepAll; max_samples = None; max_instances = None; max_arrivals = usual_arrivals; writers = leased ∷ [] };
-      requested = no_policies;
       happened = happened;
       seen = seen;
       matches = opened_with (record { peer = 1; number = 1 } ∷ []);
-      misfits = no_misfits;
     } ∷ [];
     watch = nothing_watched 1 1;
     listeners = places;

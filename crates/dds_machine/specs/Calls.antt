@@ -2,9 +2,9 @@
 -- a growth was refused.
 --
 -- DDS 1.4, 2.2.2.4 (register_instance, write, dispose, unregister_instance, assert_liveliness,
--- get_liveliness_lost_status, get_publication_matched_status, get_offered_incompatible_qos_status), 2.2.2.5 (the forms of
--- read and take, get_key_value, lookup_instance, get_sample_lost_status, get_liveliness_changed_status,
--- get_subscription_matched_status, get_requested_incompatible_qos_status), 2.2.3 (supported QoS), 2.2.1.1 (return codes); RTPS 2.5, 8.4.7.4, 8.4.10.3 (matched_reader_add, matched_writer_add and their removals).
+-- get_liveliness_lost_status, get_publication_matched_status), 2.2.2.5 (the forms of read and take, get_key_value,
+-- lookup_instance, get_sample_lost_status, get_liveliness_changed_status, get_subscription_matched_status), 2.2.1.1
+-- (return codes); RTPS 2.5, 8.4.7.4, 8.4.10.3 (matched_reader_add, matched_writer_add and their removals).
 use Rattle.std.specs.Prelude.{◌≡◌, ◌≢◌, ◌⊎◌, ℕ, ◌+◌, ◌-◌, ◌^◌, ◌≤◌, nat_lt, not, Bool, true, false, List, [], ◌∷◌, length, Option, Some, None, is_some}
 use Rattle.std.specs.Option.{option_map_or}
 use Rattle.dds_base.specs.declared.change.ChangeKind.TheVariants as kind
@@ -31,22 +31,19 @@ use Rattle.dds_base.specs.declared.policies.LivelinessKind.{LivelinessKind}
 use Rattle.dds_base.specs.declared.qos.MatchedWriter.{MatchedWriter}
 use Rattle.dds_base.specs.Matched.{is_reliable}
 use Rattle.dds_base.specs.Policies.{units_of}
-use Rattle.dds_base.specs.Offers.{is_empty, unfit_policies}
-use Rattle.dds_base.specs.declared.unfit.UnfitPolicies.{UnfitPolicies}
 use Rattle.dds_machine.specs.declared.call.Call.{Call}
 use Rattle.dds_machine.specs.declared.far.FarReader.{FarReader}
 use Rattle.dds_machine.specs.declared.far.FarWriter.{FarWriter}
-use Rattle.dds_machine.specs.declared.call.Call.TheVariants.{Register, Write, Dispose, Unregister, AssertLiveliness, SetStrength, Read, Take, GetKeyValue, LookupInstance, GetSampleLost, GetLivelinessChanged, GetLivelinessLost, ReadByCondition, TakeByCondition, CreateReadCondition, CreateQueryCondition, CreateGuardCondition, SetTriggerValue, DeleteCondition, GetTriggerValue, CreateWaitSet, DeleteWaitSet, AttachCondition, DetachCondition, GetConditions, WaitBegin, WaitLook, WaitEnd, SetEnabledStatuses, GetStatusChanges, MatchReader, UnmatchReader, MatchWriter, UnmatchWriter, GetPublicationMatched, GetSubscriptionMatched, MeetReader, MeetWriter, GetOfferedIncompatibleQos, GetRequestedIncompatibleQos}
+use Rattle.dds_machine.specs.declared.call.Call.TheVariants.{Register, Write, Dispose, Unregister, AssertLiveliness, SetStrength, Read, Take, GetKeyValue, LookupInstance, GetSampleLost, GetLivelinessChanged, GetLivelinessLost, ReadByCondition, TakeByCondition, CreateReadCondition, CreateQueryCondition, CreateGuardCondition, SetTriggerValue, DeleteCondition, GetTriggerValue, CreateWaitSet, DeleteWaitSet, AttachCondition, DetachCondition, GetConditions, WaitBegin, WaitLook, WaitEnd, SetEnabledStatuses, GetStatusChanges, MatchReader, UnmatchReader, MatchWriter, UnmatchWriter, GetPublicationMatched, GetSubscriptionMatched, MeetReader, MeetWriter}
 use Rattle.dds_machine.specs.declared.reply.Reply.{Reply}
-use Rattle.dds_machine.specs.declared.reply.Reply.TheVariants.{Done, Samples, KeyValue, InstanceHandle, SampleLost, LivelinessChanged, LivelinessLost, Matched, Incompatible, IncompatibleQos, Created, TriggerValue, Conditions, Active, Waiting, StatusChanges, Refused}
+use Rattle.dds_machine.specs.declared.reply.Reply.TheVariants.{Done, Samples, KeyValue, InstanceHandle, SampleLost, LivelinessChanged, LivelinessLost, Matched, Created, TriggerValue, Conditions, Active, Waiting, StatusChanges, Refused}
 use Rattle.dds_conditions.specs.declared.condition.Cond.{Cond}
 use Rattle.dds_conditions.specs.declared.condition.Condition.TheVariants.{Guard, Samples as OfSamples}
 use Rattle.dds_conditions.specs.Attached.{active_of, is_attached}
 use Rattle.dds_conditions.specs.Watched.{Watched, attach_refusal, conditions_of, detaching_refusal, free_refusal, guard_refusal, is_timed_out, knows, knows_entity, number_refusal, unless_there, use_refusal, with_attached, with_condition, with_condition_at, with_deadline, with_detached, with_enabled, with_wait_set, with_wait_set_at, without_condition}
-use Rattle.dds_machine.specs.Matching.{Telling, MatchReader as HasReader, UnmatchReader as HasReaderNoMore, MatchWriter as HasWriter, UnmatchWriter as HasWriterNoMore, MeetReader as HasMetReader, MeetWriter as HasMetWriter, MissReader as HasMissedReader, MissWriter as HasMissedWriter, TellingMayWantMemory, after_telling, knows_reliable, with_match, publication_matched, reader_looked_at, reader_saw_misfits, seen_after_telling, subscription_matched, telling_refusal, writer_looked_at, writer_saw_misfits}
-use Rattle.dds_machine.specs.Fitting.{misfit_status}
+use Rattle.dds_machine.specs.Matching.{Telling, MatchReader as HasReader, UnmatchReader as HasReaderNoMore, MatchWriter as HasWriter, UnmatchWriter as HasWriterNoMore, MeetReader as HasMetReader, MeetWriter as HasMetWriter, TellingMayWantMemory, after_telling, knows_reliable, with_match, publication_matched, reader_looked_at, seen_after_telling, subscription_matched, telling_refusal, writer_looked_at}
 use Rattle.dds_machine.specs.Watching.{Test, Tests, condition_refusal, condition_selection, condition_test, query_condition_refusal, read_condition_refusal, status_changes, trigger_value}
-use Rattle.dds_machine.specs.Part.{Name, Part, Rtps, Dds, Seen, Reader, Writer, own_writer, own_proxies, own_reader, publication_among, with_reader, with_writer}
+use Rattle.dds_machine.specs.Part.{Part, Rtps, Dds, Seen, Reader, Writer, own_writer, own_proxies, own_reader, publication_among, with_reader, with_writer}
 use Rattle.dds_machine.specs.Refusals.{change_made, unregister_kind, writer_refusal, write_refusal, dispose_refusal, unregister_refusal, assert_refusal, strength_refusal, access_refusal, key_of, key_refusal, reader_refusal}
 
 -- the samples that an access of the peer's reader returns
@@ -62,10 +59,6 @@ after_look part reader seen = with_reader part.dds reader (record (own_reader pa
 abbrev pub after_matches_look : Part → ℕ → Dds
 after_matches_look part reader =
     with_reader part.dds reader (reader_looked_at (own_proxies part reader) (own_reader part reader))
-
--- and once REQUESTED_INCOMPATIBLE_QOS of it was
-abbrev pub after_misfits_look : Part → ℕ → Dds
-after_misfits_look part reader = with_reader part.dds reader (reader_saw_misfits (own_reader part reader))
 
 -- what is seen of a reader's statuses once its SAMPLE_LOST was looked at
 abbrev pub seen_lost : Reader → Seen
@@ -101,13 +94,12 @@ abbrev pub liveliness_lost_at : Writer → LivelinessLostStatus
 liveliness_lost_at w = liveliness_lost_status w.lease w.written
 
 -- What a call does to its peer's writers and places, if anything: it enters something at a writer, tells a writer or a
--- reader who is matched with it, or does not fit, or looks at a writer's matches or misfits.
+-- reader who is matched with it, or looks at a writer's matches.
 pub data Effect : Type 0 where
   nothing : Effect
   writes : (writer : ℕ) (entry : Written) → Effect
   tells : (telling : Telling) → Effect
   looks_at_matches : (writer : ℕ) → Effect
-  looks_at_misfits : (writer : ℕ) → Effect
 
 -- a writer, after one more thing happened there
 abbrev pub with_written : Writer → Written → Writer
@@ -119,27 +111,15 @@ effect old nothing = old
 effect old (writes writer entry) = with_writer old writer (λ w. with_written w entry)
 effect old (tells telling) = after_telling old telling
 effect old (looks_at_matches writer) = with_writer old writer writer_looked_at
-effect old (looks_at_misfits writer) = with_writer old writer writer_saw_misfits
 
 -- what the call tells of a reader: whether it is a reliable one, the writer knows
 abbrev pub reader_told : Part → ℕ → Endpoint → Telling
 reader_told part writer reader = HasReader writer reader (knows_reliable (own_writer part writer) reader)
 
--- the name of a far reader, and whether it asks for all changes (DDS 1.4, 2.2.3, RELIABILITY)
-abbrev pub reader_named : FarReader → Name
-reader_named far = record { end = far.endpoint; guid = far.guid; reliable = is_reliable far.requested.reliability }
-
--- the policies of which the peer's writer offers less than a far reader asks for
-abbrev pub unfit_reader : Part → ℕ → FarReader → UnfitPolicies
-unfit_reader part writer far = unfit_policies (own_writer part writer).offered far.requested
-
--- what a writer is told of a far reader that fits
+-- what a writer is told of a far reader: its name, and whether it asks for all changes (DDS 1.4, 2.2.3, RELIABILITY)
 abbrev pub far_reader_told : ℕ → FarReader → Telling
-far_reader_told writer far = HasMetReader writer (reader_named far)
-
--- and of one that does not
-abbrev pub unfit_reader_told : ℕ → FarReader → Telling
-unfit_reader_told writer far = HasMissedReader writer (reader_named far) far.requested
+far_reader_told writer far = HasMetReader writer
+    (record { end = far.endpoint; guid = far.guid; reliable = is_reliable far.requested.reliability })
 
 -- how long an assertion of a writer lasts at its readers: for ever where it does not assert itself by topic (DDS 1.4,
 -- 2.2.3, LIVELINESS)
@@ -152,17 +132,9 @@ abbrev pub as_matched : FarWriter → MatchedWriter
 as_matched far =
     record { guid = far.guid; strength = far.offered.strength; lease = lease_by far.offered.liveliness.kind (units_of far.offered.liveliness.lease) }
 
--- the policies of which a far writer offers less than the peer's reader asks for
-abbrev pub unfit_writer : Part → ℕ → FarWriter → UnfitPolicies
-unfit_writer part reader far = unfit_policies far.offered (own_reader part reader).requested
-
--- what a reader is told of a far writer that fits
+-- what a reader is told of it
 abbrev pub far_writer_told : ℕ → FarWriter → Telling
 far_writer_told reader far = HasMetWriter reader far.endpoint (as_matched far)
-
--- and of one that does not
-abbrev pub unfit_writer_told : ℕ → FarWriter → Telling
-unfit_writer_told reader far = HasMissedWriter reader far.endpoint (as_matched far) far.offered
 
 -- the publication handle of a writer once the peer's reader was told of it: one that it does not know has the next one
 abbrev pub handle_once_met : Part → ℕ → Endpoint → ℕ
@@ -186,9 +158,6 @@ effect_of part (UnmatchWriter reader writer) Done = tells (HasWriterNoMore reade
 effect_of part (GetPublicationMatched writer) (Matched status) = looks_at_matches writer
 effect_of part (MeetReader writer far greeted) Done = tells (far_reader_told writer far)
 effect_of part (MeetWriter reader far) (InstanceHandle handle) = tells (far_writer_told reader far)
-effect_of part (MeetReader writer far greeted) (Incompatible unfit) = tells (unfit_reader_told writer far)
-effect_of part (MeetWriter reader far) (Incompatible unfit) = tells (unfit_writer_told reader far)
-effect_of part (GetOfferedIncompatibleQos writer) (IncompatibleQos status) = looks_at_misfits writer
 effect_of part call reply = nothing
 
 -- A call that the first cause refuses, if there is one, or want of memory: else it is done. What was `old` is then
@@ -262,17 +231,6 @@ AnswersTelling telling answer old (Refused code) dds =
     Refuses (telling_refusal old telling) code × (code ≡ Memory → TellingMayWantMemory old telling) × (dds ≡ old.dds)
 AnswersTelling telling answer old reply dds =
     (telling_refusal old telling ≡ None) × (reply ≡ answer) × (dds ≡ seen_after_telling old telling)
-
--- A call by which an end is met. One that fits is told so, and the call is answered so; of one that does not the
--- policies that don't are answered. Either is refused for the same causes.
-abbrev pub AnswersMeeting : UnfitPolicies → Telling → Telling → Reply → Part → Reply → Dds → Type 0
-AnswersMeeting unfit meets misses answer old (Incompatible policies) dds =
-    (is_empty unfit ≡ false) × (policies ≡ unfit) × (telling_refusal old misses ≡ None)
-    × (dds ≡ seen_after_telling old misses)
-AnswersMeeting unfit meets misses answer old (Refused code) dds =
-    AnswersTelling meets answer old (Refused code) dds
-AnswersMeeting unfit meets misses answer old reply dds =
-    (is_empty unfit ≡ true) × AnswersTelling meets answer old reply dds
 
 -- What a call answers, and what it does to what the peer's own calls see. A look at a status, a key, a handle and an
 -- assertion need no memory. These are the calls ..
@@ -390,18 +348,9 @@ Answers tests old (GetSubscriptionMatched reader) reply dds =
     (Matched (subscription_matched (own_proxies old reader) (own_reader old reader))) (after_matches_look old reader) old
     reply dds
 Answers tests old (MeetReader writer far greeted) reply dds =
-    AnswersMeeting (unfit_reader old writer far) (far_reader_told writer far) (unfit_reader_told writer far) Done old
-    reply dds
+    AnswersTelling (far_reader_told writer far) Done old reply dds
 Answers tests old (MeetWriter reader far) reply dds =
-    AnswersMeeting (unfit_writer old reader far) (far_writer_told reader far) (unfit_writer_told reader far)
-    (InstanceHandle (handle_once_met old reader far.endpoint)) old reply dds
--- .. of who does not fit a writer or a reader
-Answers tests old (GetOfferedIncompatibleQos writer) reply dds =
-    IsAnswered (writer_refusal old writer) (IncompatibleQos (misfit_status (own_writer old writer).misfits)) old.dds old
-    reply dds
-Answers tests old (GetRequestedIncompatibleQos reader) reply dds =
-    IsAnswered (reader_refusal old reader) (IncompatibleQos (misfit_status (own_reader old reader).misfits))
-    (after_misfits_look old reader) old reply dds
+    AnswersTelling (far_writer_told reader far) (InstanceHandle (handle_once_met old reader far.endpoint)) old reply dds
 
 -- one call at a peer
 pub record CallStep (tests : Tests) (old : Part) (call : Call) (reply : Reply) (new : Part) : Type 0 where

@@ -2,7 +2,6 @@ pub mod Numbered
 pub mod Part
 pub mod Naming
 pub mod Passing
-pub mod Fitting
 pub mod Matching
 pub mod Moves
 pub mod Watching

@@ -1,7 +1,6 @@
 -- A peer is told that a writer and a reader are matched from now on, or no longer: what its part then is. Each side is
 -- told for itself, at any moment, whatever the other side knows. An end may be one of the opening, or one that was not
--- known before: a writer then knows one reader more, and a reader has one row more, the last one. One that does not fit
--- is not matched: it is known by its name, and as a misfit.
+-- known before: a writer then knows one reader more, and a reader has one row more, the last one.
 --
 -- RTPS 2.5, 8.4.7.4 (StatefulWriter, matched_reader_add, matched_reader_remove), 8.4.10.3 (StatefulReader,
 -- matched_writer_add, matched_writer_remove); DDS 1.4, 2.2.3 (DURABILITY: VOLATILE), 2.2.4.1
@@ -19,10 +18,7 @@ use Rattle.dds_base.specs.Checked.{is_bad_lease}
 use Rattle.dds_base.specs.Liveliness.{after_parting}
 use Rattle.dds_base.specs.Refusal.{Refuses}
 use Rattle.dds_base.specs.declared.endpoint.Endpoint.{Endpoint}
-use Rattle.dds_base.specs.declared.policies.Policies.{Policies}
 use Rattle.dds_base.specs.declared.status.MatchedStatus.{MatchedStatus}
-use Rattle.dds_base.specs.Offers.{unfit_policies}
-use Rattle.dds_machine.specs.Fitting.{is_misfit, once_fit, once_unfit, seen_misfits}
 use Rattle.dds_machine.specs.Numbered.{has_element, numbered, with_numbered}
 use Rattle.dds_machine.specs.Naming.{is_name_among, with_name}
 use Rattle.dds_machine.specs.Part.{Attachment, Away, Waiting, Matches, Name, ReaderProxy, TopicReader, WriterProxy, Writer, Reader, Rtps, Dds, Part, own_writer, own_proxies, own_reader, writer_changes, same_endpoint, row_of, with_row, how_of, is_attached, publication_among, with_reader, with_writer}
@@ -41,10 +37,6 @@ knows_reader w reader = is_some (row_of (λ (k : TopicReader). k.reader) w.known
 abbrev pub knows_reliable : Writer → Endpoint → Bool
 knows_reliable w reader =
     option_map_or (λ (k : TopicReader). k.reliable) (row_of (λ (k : TopicReader). k.reader) w.known reader) false
-
--- the writer was told of the reader: it knows it, or the reader does not fit
-abbrev pub was_told_of : Writer → Endpoint → Bool
-was_told_of w reader = knows_reader w reader || is_misfit w.misfits reader
 
 -- one match more, with this end
 abbrev pub match_made : Matches → Endpoint → Matches
@@ -92,19 +84,9 @@ knowing w reader reliable =
 abbrev pub meets_reliable : Writer → Endpoint → Bool → Bool
 meets_reliable w reader reliable = knows_reliable (knowing w reader reliable) reader
 
--- the writer, once it is told that this reader fits
-abbrev pub told_fit : Writer → Endpoint → Writer
-told_fit w reader = record w { misfits = once_fit w.misfits reader }
-
--- the writer, once it is told of a reader that it may not know, and that fits, which is reliable or not
+-- the writer, once it is told of a reader that it may not know, which is reliable or not
 abbrev pub met : Writer → Endpoint → Bool → Writer
-met w reader reliable =
-    joined (knowing (told_fit w reader) reader reliable) reader (meets_reliable w reader reliable)
-
--- the writer, once it is told of a reader that asks for these policies, not all of which it offers
-abbrev pub missed : Writer → Endpoint → Policies → Writer
-missed w reader requested =
-    record w { misfits = once_unfit w.misfits reader requested (unfit_policies w.offered requested) }
+met w reader reliable = joined (knowing w reader reliable) reader (meets_reliable w reader reliable)
 
 -- ---- at a reader
 
@@ -122,10 +104,6 @@ abbrev pub with_match : List WriterProxy → Endpoint → List WriterProxy
 with_match rows writer =
     if is_known rows writer then with_how rows writer Waiting
     else rows ++ record { writer = writer; place = 1; heard = None; how = Waiting } ∷ []
-
--- the reader, which knows these writers, was told of this one: it knows it, or the writer does not fit
-abbrev pub has_heard_of : List WriterProxy → Reader → Endpoint → Bool
-has_heard_of rows r writer = is_known rows writer || is_misfit r.misfits writer
 
 -- how many writers the reader is matched with
 abbrev pub attached_count : List WriterProxy → ℕ
@@ -149,17 +127,10 @@ reader_left r writer happened = record r { happened = happened; matches = match_
 abbrev pub happened_once_met : Bool → MatchedWriter → List Happening → List Happening
 happened_once_met known writer h = if known then h else Joined writer ∷ h
 
--- the reader, which knows these writers, once it is told of one that it may not know, and that fits
+-- the reader, which knows these writers, once it is told of one that it may not know
 abbrev pub reader_met : List WriterProxy → Reader → Endpoint → MatchedWriter → Reader
-reader_met rows r writer as_writer = record (reader_joined r writer) {
-  happened = happened_once_met (is_known rows writer) as_writer r.happened;
-  misfits = once_fit r.misfits writer;
-}
-
--- the reader, once it is told of a writer that offers these policies, less than it asks for
-abbrev pub reader_missed : Reader → Endpoint → Policies → Reader
-reader_missed r writer offered =
-    record r { misfits = once_unfit r.misfits writer offered (unfit_policies offered r.requested) }
+reader_met rows r writer as_writer = record (reader_joined r writer)
+    { happened = happened_once_met (is_known rows writer) as_writer r.happened }
 
 -- ---- statuses
 
@@ -202,19 +173,11 @@ writer_looked_at w = record w { matches = seen_matches w.matches (length w.match
 abbrev pub reader_looked_at : List WriterProxy → Reader → Reader
 reader_looked_at rows r = record r { matches = seen_matches r.matches (attached_count rows) }
 
--- a writer, once the application has looked at how often a reader did not fit
-abbrev pub writer_saw_misfits : Writer → Writer
-writer_saw_misfits w = record w { misfits = seen_misfits w.misfits }
-
--- a reader, once the application has looked at how often a writer did not fit
-abbrev pub reader_saw_misfits : Reader → Reader
-reader_saw_misfits r = record r { misfits = seen_misfits r.misfits }
-
 -- ---- tellings
 
 -- What a peer is told: its writer of a reader, which is reliable or not, or that a reader has left; its reader of a
 -- writer, or that a writer has left. It meets one that it may not know: a reader by its name, which says whether it is
--- reliable, and a writer by the name and the GUID of it. Or such a one does not fit, by these policies.
+-- reliable, and a writer by the name and the GUID of it.
 pub data Telling : Type 0 where
   MatchReader : (writer : ℕ) (reader : Endpoint) (reliable : Bool) → Telling
   UnmatchReader : (writer : ℕ) (reader : Endpoint) → Telling
@@ -222,8 +185,6 @@ pub data Telling : Type 0 where
   UnmatchWriter : (reader : ℕ) (writer : Endpoint) → Telling
   MeetReader : (writer : ℕ) (reader : Name) → Telling
   MeetWriter : (reader : ℕ) (writer : Endpoint) (as_writer : MatchedWriter) → Telling
-  MissReader : (writer : ℕ) (reader : Name) (requested : Policies) → Telling
-  MissWriter : (reader : ℕ) (writer : Endpoint) (as_writer : MatchedWriter) (offered : Policies) → Telling
 
 -- the end knows none of that name; or the two are matched already, or are not, as the telling has it
 abbrev pub matching_refusal : Bool → Bool → Option Code
@@ -260,38 +221,25 @@ knows_too_many w reader = not (knows_reader w reader)
 abbrev pub has_too_many : List WriterProxy → Endpoint → Bool
 has_too_many rows writer = not (is_known rows writer) && nat_le max_known (length rows)
 
--- why a peer's writer does not meet a reader, whether that one fits or not: it can't be called so, the two are matched
--- already, or it is one too many
-abbrev pub meet_reader_refusal : Part → ℕ → Name → Option Code
-meet_reader_refusal part writer reader =
+-- why a telling is refused: no such writer or reader here, or none of its topic of that name; or the two are matched
+-- there already, or are not; or the end that is met can't be called so, or is one too many
+abbrev pub telling_refusal : Part → Telling → Option Code
+telling_refusal part (MatchReader writer reader reliable) =
+    matching_refusal (knows_reader (own_writer part writer) reader) (is_matched (own_writer part writer) reader)
+telling_refusal part (UnmatchReader writer reader) =
+    matching_refusal (knows_reader (own_writer part writer) reader) (not (is_matched (own_writer part writer) reader))
+telling_refusal part (MatchWriter reader writer) =
+    matching_refusal (is_known (own_proxies part reader) writer) (is_attached (how_of (own_proxies part reader) writer))
+telling_refusal part (UnmatchWriter reader writer) =
+    matching_refusal (is_known (own_proxies part reader) writer)
+    (not (is_attached (how_of (own_proxies part reader) writer)))
+telling_refusal part (MeetReader writer reader) =
     option_or (matching_refusal (may_meet_reader part.rtps writer reader) (is_matched (own_writer part writer) reader.end))
     (if knows_too_many (own_writer part writer) reader.end then Some OutOfResources else None)
-
--- why a peer's reader does not meet a writer, likewise
-abbrev pub meet_writer_refusal : Part → ℕ → Endpoint → MatchedWriter → Option Code
-meet_writer_refusal part reader writer as_writer =
+telling_refusal part (MeetWriter reader writer as_writer) =
     option_or (matching_refusal (may_meet_writer part.rtps reader writer as_writer)
     (is_attached (how_of (own_proxies part reader) writer)))
     (if has_too_many (own_proxies part reader) writer then Some OutOfResources else None)
-
--- why a telling is refused: no such writer or reader here, or none of its topic of that name; or the two are matched
--- there already, or are not, or do not fit; or the end that is met can't be called so, or is one too many
-abbrev pub telling_refusal : Part → Telling → Option Code
-telling_refusal part (MatchReader writer reader reliable) =
-    matching_refusal (was_told_of (own_writer part writer) reader)
-    (is_matched (own_writer part writer) reader || is_misfit (own_writer part writer).misfits reader)
-telling_refusal part (UnmatchReader writer reader) =
-    matching_refusal (was_told_of (own_writer part writer) reader) (not (is_matched (own_writer part writer) reader))
-telling_refusal part (MatchWriter reader writer) =
-    matching_refusal (has_heard_of (own_proxies part reader) (own_reader part reader) writer)
-    (is_attached (how_of (own_proxies part reader) writer) || is_misfit (own_reader part reader).misfits writer)
-telling_refusal part (UnmatchWriter reader writer) =
-    matching_refusal (has_heard_of (own_proxies part reader) (own_reader part reader) writer)
-    (not (is_attached (how_of (own_proxies part reader) writer)))
-telling_refusal part (MeetReader writer reader) = meet_reader_refusal part writer reader
-telling_refusal part (MeetWriter reader writer as_writer) = meet_writer_refusal part reader writer as_writer
-telling_refusal part (MissReader writer reader requested) = meet_reader_refusal part writer reader
-telling_refusal part (MissWriter reader writer as_writer offered) = meet_writer_refusal part reader writer as_writer
 
 -- what a telling does to a peer's writers and to the rows of its readers
 abbrev pub after_telling : Rtps → Telling → Rtps
@@ -308,11 +256,6 @@ after_telling old (MeetWriter reader writer as_writer) = record old {
   readers = with_numbered old.readers reader (with_match (numbered old.readers reader []) writer);
   names = record old.names { writers = with_name old.names.writers (name_of writer as_writer) };
 }
-after_telling old (MissReader writer reader requested) =
-    record (with_writer old writer (λ w. missed w reader.end requested))
-    { names = record old.names { readers = with_name old.names.readers reader } }
-after_telling old (MissWriter reader writer as_writer offered) =
-    record old { names = record old.names { writers = with_name old.names.writers (name_of writer as_writer) } }
 
 -- what has happened at the peer's reader once this writer left
 abbrev pub parted_at : Part → ℕ → Endpoint → List Happening
@@ -328,8 +271,6 @@ seen_after_telling old (UnmatchWriter reader writer) =
     with_reader old.dds reader (reader_left (own_reader old reader) writer (parted_at old reader writer))
 seen_after_telling old (MeetWriter reader writer as_writer) = with_reader old.dds reader
     (reader_met (own_proxies old reader) (own_reader old reader) writer as_writer)
-seen_after_telling old (MissWriter reader writer as_writer offered) =
-    with_reader old.dds reader (reader_missed (own_reader old reader) writer offered)
 seen_after_telling old other = old.dds
 
 -- A writer that is told of a reader may want memory, and so may who meets an end. That a writer has left does so only
@@ -339,8 +280,6 @@ TellingMayWantMemory part (MatchReader writer reader reliable) = Unit {0}
 TellingMayWantMemory part (UnmatchWriter reader writer) = 2 ^ 64 - 1 < length (parted_at part reader writer)
 TellingMayWantMemory part (MeetReader writer reader) = Unit {0}
 TellingMayWantMemory part (MeetWriter reader writer as_writer) = Unit {0}
-TellingMayWantMemory part (MissReader writer reader requested) = Unit {0}
-TellingMayWantMemory part (MissWriter reader writer as_writer offered) = Unit {0}
 TellingMayWantMemory part other = ⊥
 
 -- One telling at a peer: it is done; or the first cause refuses it, or want of memory where there is none, and nothing

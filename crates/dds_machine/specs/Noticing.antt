@@ -4,7 +4,7 @@
 --
 -- DDS 1.4, 2.2.4.1 (communication statuses), 2.2.4.2.1 (changes in plain communication status), 2.2.4.3 (access through
 -- listeners).
-use Rattle.std.specs.Prelude.{ℕ, zero, suc, ◌==◌, Bool, nat_lt, List, length, Option, None, Some, is_some, if◌then◌else◌}
+use Rattle.std.specs.Prelude.{ℕ, zero, suc, ◌==◌, nat_lt, List, length, Option, None, Some, is_some, if◌then◌else◌}
 use Rattle.dds_base.specs.declared.entity.Entity.{Entity}
 use Rattle.dds_base.specs.declared.entity.Entity.TheVariants as entity
 use Rattle.dds_base.specs.Liveliness.{liveliness_changed_status}
@@ -12,33 +12,18 @@ use Rattle.dds_base.specs.StatusFlags.{data_available_at, is_after, turned_at}
 use Rattle.dds_base.specs.Statuses.{sample_lost_status}
 use Rattle.dds_base.specs.Written.{LookedAt, liveliness_lost_status}
 use Rattle.dds_notices.specs.declared.notice.Status.{Status}
-use Rattle.dds_notices.specs.declared.notice.Status.TheVariants.{OfferedIncompatibleQos, RequestedIncompatibleQos, SampleLost, DataAvailable, LivelinessLost, LivelinessChanged, PublicationMatched, SubscriptionMatched}
+use Rattle.dds_notices.specs.declared.notice.Status.TheVariants.{SampleLost, DataAvailable, LivelinessLost, LivelinessChanged, PublicationMatched, SubscriptionMatched}
 use Rattle.dds_notices.specs.Listeners.{Place, after_notice, taker_of, with_entity}
-use Rattle.dds_machine.specs.Part.{Misfits, Part, Reader, Seen, Writer, WriterProxy, own_proxies, own_reader, own_writer}
-use Rattle.dds_machine.specs.Calls.{Effect, after_look, after_matches_look, after_misfits_look, effect, looks_at_matches, looks_at_misfits, seen_liveliness, seen_lost, writes}
+use Rattle.dds_machine.specs.Part.{Part, Reader, Seen, Writer, WriterProxy, own_proxies, own_reader, own_writer}
+use Rattle.dds_machine.specs.Calls.{Effect, after_look, after_matches_look, effect, looks_at_matches, seen_liveliness, seen_lost, writes}
 use Rattle.dds_machine.specs.declared.event.WorldEvent.{WorldEvent}
 use Rattle.dds_machine.specs.declared.event.WorldEvent.TheVariants as event
-use Rattle.dds_machine.specs.Fitting.{misfit_status, told_times}
 use Rattle.dds_machine.specs.Matching.{attached_count, publication_matched, subscription_matched}
 use Rattle.dds_machine.specs.Numbered.{with_numbered}
 use Rattle.dds_machine.specs.Passing.{passed_at}
 use Rattle.dds_machine.specs.Machine.{Machine, part_at}
 
 -- ---- what an event raised, by what an entity was before it
-
--- there are more misfits than before
-abbrev pub are_more_misfits : Misfits → Misfits → Bool
-are_more_misfits before misfits = nat_lt (told_times (length before.told)) (told_times (length misfits.told))
-
--- OFFERED_INCOMPATIBLE_QOS of a writer, if it was told of a reader that does not fit
-abbrev pub offered_raised : Writer → Writer → Option Status
-offered_raised before w =
-    if are_more_misfits before.misfits w.misfits then Some (OfferedIncompatibleQos (misfit_status w.misfits)) else None
-
--- REQUESTED_INCOMPATIBLE_QOS of a reader, if it was told of a writer that does not fit
-abbrev pub requested_raised : Reader → Reader → Option Status
-requested_raised before r =
-    if are_more_misfits before.misfits r.misfits then Some (RequestedIncompatibleQos (misfit_status r.misfits)) else None
 
 -- SAMPLE_LOST of a reader, if changes were passed over
 abbrev pub lost_raised : Reader → Reader → Option Status
@@ -88,7 +73,6 @@ seen_by r other = r.seen
 
 -- what a look at this status of a writer does there
 abbrev pub look_of : ℕ → Status → Effect
-look_of n (OfferedIncompatibleQos values) = looks_at_misfits n
 look_of n (PublicationMatched values) = looks_at_matches n
 look_of n other = writes n LookedAt
 
@@ -96,7 +80,6 @@ look_of n other = writes n LookedAt
 abbrev pub looked_at : Part → Entity → Status → Part
 looked_at part entity.Participant status = part
 looked_at part (entity.Writer n) status = record part { rtps = effect part.rtps (look_of n status) }
-looked_at part (entity.Reader n) (RequestedIncompatibleQos values) = record part { dds = after_misfits_look part n }
 looked_at part (entity.Reader n) (SubscriptionMatched values) = record part { dds = after_matches_look part n }
 looked_at part (entity.Reader n) status = record part { dds = after_look part n (seen_by (own_reader part n) status) }
 
@@ -114,22 +97,18 @@ told part entity (Some status) =
     if is_some (taker_of part.dds.listeners entity status) then told_of part entity status else part
 
 -- A part, once the statuses of the reader of this number that were raised since the part was as before were told, by
--- ascending bit (2.3.3): REQUESTED_INCOMPATIBLE_QOS, SAMPLE_LOST, DATA_AVAILABLE, LIVELINESS_CHANGED and
--- SUBSCRIPTION_MATCHED.
+-- ascending bit (2.3.3): SAMPLE_LOST, DATA_AVAILABLE, LIVELINESS_CHANGED and SUBSCRIPTION_MATCHED.
 abbrev pub reader_told : Part → ℕ → Part → Part
 reader_told before n part =
-    let unfit : Part = told part (entity.Reader n) (requested_raised (own_reader before n) (own_reader part n)) in
-    let lost : Part = told unfit (entity.Reader n) (lost_raised (own_reader before n) (own_reader unfit n)) in
+    let lost : Part = told part (entity.Reader n) (lost_raised (own_reader before n) (own_reader part n)) in
     let came : Part = told lost (entity.Reader n) (data_raised (own_reader before n) (own_reader lost n)) in
     let turn : Part = told came (entity.Reader n) (turn_raised (own_reader before n) (own_reader came n)) in
     told turn (entity.Reader n) (subscription_raised (own_proxies before n) (own_proxies turn n) (own_reader turn n))
 
--- a part, once those of the writer of this number were told likewise: OFFERED_INCOMPATIBLE_QOS, LIVELINESS_LOST and
--- PUBLICATION_MATCHED
+-- a part, once those of the writer of this number were told likewise: LIVELINESS_LOST and PUBLICATION_MATCHED
 abbrev pub writer_told : Part → ℕ → Part → Part
 writer_told before n part =
-    let unfit : Part = told part (entity.Writer n) (offered_raised (own_writer before n) (own_writer part n)) in
-    let lost : Part = told unfit (entity.Writer n) (loss_raised (own_writer before n) (own_writer unfit n)) in
+    let lost : Part = told part (entity.Writer n) (loss_raised (own_writer before n) (own_writer part n)) in
     told lost (entity.Writer n) (publication_raised (own_writer before n) (own_writer lost n))
 
 -- the first so many entities, in their order

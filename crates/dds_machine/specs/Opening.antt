@@ -15,10 +15,9 @@ use Rattle.dds_base.specs.declared.qos.ReaderQos.{ReaderQos}
 use Rattle.dds_conditions.specs.Watched.{opened as nothing_watched}
 use Rattle.dds_notices.specs.Listeners.{nobody}
 use Rattle.dds_base.specs.Ownership.{carried}
-use Rattle.dds_base.specs.Offered.{offered, requested}
 use Rattle.dds_base.specs.Matched.{is_reliable_reader, of_matched_writers, of_matched_readers, of_reliable_readers}
 use Rattle.dds_base.specs.declared.endpoint.Endpoint.{Endpoint}
-use Rattle.dds_machine.specs.Part.{Name, ReaderProxy, TopicReader, WriterProxy, Begun, Writer, Reader, Part, no_misfits, nothing_seen, opened_with}
+use Rattle.dds_machine.specs.Part.{Name, ReaderProxy, TopicReader, WriterProxy, Begun, Writer, Reader, Part, nothing_seen, opened_with}
 use Rattle.dds_base.specs.Checked.{limit_of}
 use Rattle.dds_machine.specs.Machine.{Machine}
 
@@ -96,7 +95,6 @@ writer_from first peers w =
       max_samples = limit_of w.max_samples;
       lease = w.lease;
       strength = carried w.ownership w.strength;
-      offered = offered w;
       autodispose = w.autodispose;
       max_value = w.max_value;
       known = topic_readers w.topic first peers;
@@ -104,18 +102,15 @@ writer_from first peers w =
       matched = matched_readers w.topic first peers;
       readers = reliable_readers w.topic first peers;
       matches = opened_with (matched_readers w.topic first peers);
-      misfits = no_misfits;
     }
 
 -- a reader at which nothing has happened, likewise
 abbrev pub reader_from : ℕ → List PeerConfig → ReaderConfig → Reader
 reader_from first peers r = record {
   qos = reader_qos peers r;
-  requested = requested r;
   happened = [];
   seen = nothing_seen;
   matches = opened_with (map (λ (p : WriterProxy). p.writer) (matched_writers r.topic first peers));
-  misfits = no_misfits;
 }
 
 -- the part of a peer to which nothing has happened, likewise: at moment 0, with nothing watched and no listener. It

@@ -14,18 +14,11 @@ use Rattle.dds_base.specs.declared.qos.ReliabilityQos.TheVariants.{Reliable}
 use Rattle.dds_base.specs.declared.qos.ReaderQos.{ReaderQos}
 use Rattle.dds_base.specs.Bounds.{usual_arrivals, usual_value}
 use Rattle.dds_base.specs.Written.{Written, changes_of, counts_of}
-use Rattle.dds_base.specs.Policies.{default_presentation, infinite}
-use Rattle.dds_base.specs.declared.policies.DestinationOrderQos.TheVariants.{ByReceptionTimestamp}
-use Rattle.dds_base.specs.declared.policies.DurabilityQos.TheVariants.{Volatile}
-use Rattle.dds_base.specs.declared.policies.LivelinessKind.TheVariants.{Automatic}
-use Rattle.dds_base.specs.declared.policies.Policies.{Policies}
-use Rattle.dds_base.specs.declared.unfit.UnfitPolicies.{UnfitPolicies}
 use Rattle.dds_base.specs.Kept.{WriterHistory}
 use Rattle.dds_conditions.specs.Watched.{Watched, opened as nothing_watched}
 use Rattle.dds_notices.specs.Listeners.{Places, nobody}
 use Rattle.dds_base.specs.declared.endpoint.Endpoint.{Endpoint}
 use Rattle.dds_base.specs.declared.guid.Guid.{Guid}
-use Rattle.dds_machine.specs.declared.far.Misfit.{Misfit}
 use Rattle.dds_machine.specs.Numbered.{numbered, with_numbered}
 
 -- two names are of one endpoint
@@ -62,18 +55,6 @@ opened_with ends = record {
   here_seen = length ends;
 }
 
--- The misfits of a writer or a reader (2.2.4.1): the far ends that do not fit, as it was told of them last; of each time
--- that it was told of such a one, but not the same as last, the policies that did not fit, the newest first; and how often
--- that had been when the application looked at it last.
-pub record Misfits : Type 0 where
-  pub here : List Misfit
-  pub told : List UnfitPolicies
-  pub told_seen : ℕ
-
--- before the first one
-abbrev pub no_misfits : Misfits
-no_misfits = record { here = []; told = []; told_seen = 0 }
-
 -- what a reader knows of a writer: its place there, the number of the next change; the count of the last HEARTBEAT by
 -- which it heard the writer assert its liveliness, if there was one; and how it stands to it
 pub record WriterProxy : Type 0 where
@@ -88,15 +69,13 @@ pub record TopicReader : Type 0 where
   pub reliable : Bool
 
 -- a writer: its policy, limit and lease, the strength that it was configured with, none of a writer of shared ownership,
--- what it offers, as it was configured, whether an unregister disposes too, how many octets a value has at most, the
--- readers of its topic, what happened there, the newest first, its matched readers, what it knows of those that are
--- reliable, its matches, and the readers that don't fit
+-- whether an unregister disposes too, how many octets a value has at most, the readers of its topic, what happened there,
+-- the newest first, its matched readers, what it knows of those that are reliable, and its matches
 pub record Writer : Type 0 where
   pub policy : HistoryQos
   pub max_samples : Option ℕ
   pub lease : Option ℕ
   pub strength : Option ℤ
-  pub offered : Policies
   pub autodispose : Bool
   pub max_value : ℕ
   pub known : List TopicReader
@@ -104,7 +83,6 @@ pub record Writer : Type 0 where
   pub matched : List Endpoint
   pub readers : List ReaderProxy
   pub matches : Matches
-  pub misfits : Misfits
 
 -- the name by which a peer speaks of a writer or of a reader, the GUID of that one (RTPS 2.5, 8.2: GUID_t), and whether
 -- it is a reliable reader (DDS 1.4, 2.2.3, RELIABILITY: it can't change); of a writer's name this is always true
@@ -145,15 +123,13 @@ abbrev pub nothing_seen : Seen
 nothing_seen =
     record { lost = 0; entries_at_lost = 0; entries_at_data = 0; alive = 0; not_alive = 0; entries_at_turn = 0 }
 
--- a reader as its own calls see it: its QoS, what it asks for, what happened there, the newest first, what was seen of its
--- statuses, its matches, and the writers that don't fit
+-- a reader as its own calls see it: its QoS, what happened there, the newest first, what was seen of its statuses, and
+-- its matches
 pub record Reader : Type 0 where
   pub qos : ReaderQos
-  pub requested : Policies
   pub happened : List Happening
   pub seen : Seen
   pub matches : Matches
-  pub misfits : Misfits
 
 -- a peer's moment, its readers, what its application watches, and the places of its listeners
 pub record Dds : Type 0 where
@@ -167,20 +143,6 @@ pub record Part : Type 0 where
   pub rtps : Rtps
   pub dds : Dds
 
--- in the place of what an end offers or asks for that is not there: all changes, and of all else the least
-abbrev pub no_policies : Policies
-no_policies = record {
-  reliability = Reliable;
-  durability = Volatile;
-  liveliness = record { kind = Automatic; lease = infinite };
-  ownership = Shared;
-  strength = pos 0;
-  deadline = infinite;
-  latency_budget = infinite;
-  destination_order = ByReceptionTimestamp;
-  presentation = default_presentation;
-}
-
 -- in the place of a writer that is not there: one that has done nothing, and is matched with nobody
 abbrev pub no_writer : Writer
 no_writer = record {
@@ -188,7 +150,6 @@ no_writer = record {
   max_samples = None;
   lease = None;
   strength = None;
-  offered = no_policies;
   autodispose = false;
   max_value = usual_value;
   known = [];
@@ -196,7 +157,6 @@ no_writer = record {
   matched = [];
   readers = [];
   matches = opened_with [];
-  misfits = no_misfits;
 }
 
 -- in the place of a reader that is not there: one at which nothing has happened, and that is matched with nobody
@@ -211,11 +171,9 @@ no_reader = record {
     max_arrivals = usual_arrivals;
     writers = [];
   };
-  requested = no_policies;
   happened = [];
   seen = nothing_seen;
   matches = opened_with [];
-  misfits = no_misfits;
 }
 
 -- in the place of the part of a peer that is not there: it has no writers and no readers

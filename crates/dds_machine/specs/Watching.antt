@@ -18,13 +18,12 @@ use Rattle.dds_base.specs.StatusFlags.{data_available_at, is_after, turned_at}
 use Rattle.dds_base.specs.Written.{liveliness_lost_status}
 use Rattle.dds_base.specs.Number.{at_number}
 use Rattle.dds_notices.specs.declared.mask.StatusMask.{StatusMask}
-use Rattle.dds_notices.specs.Masks.{offered_incompatible_qos_bit, requested_incompatible_qos_bit, sample_lost_bit, data_available_bit, liveliness_lost_bit, liveliness_changed_bit, publication_matched_bit, subscription_matched_bit}
+use Rattle.dds_notices.specs.Masks.{sample_lost_bit, data_available_bit, liveliness_lost_bit, liveliness_changed_bit, publication_matched_bit, subscription_matched_bit}
 use Rattle.dds_conditions.specs.declared.condition.Cond.{Cond}
 use Rattle.dds_conditions.specs.declared.condition.Cond.TheVariants.{Status, Made}
 use Rattle.dds_conditions.specs.declared.condition.Condition.{Condition}
 use Rattle.dds_conditions.specs.declared.condition.Condition.TheVariants.{Samples, Guard}
 use Rattle.dds_conditions.specs.Watched.{enabled_of, has_filter, knows_entity, number_refusal}
-use Rattle.dds_machine.specs.Fitting.{is_misfit_flagged}
 use Rattle.dds_machine.specs.Matching.{attached_count, is_match_flagged}
 use Rattle.dds_machine.specs.Numbered.{has_element}
 use Rattle.dds_machine.specs.Passing.{passed_at}
@@ -36,26 +35,23 @@ use Rattle.dds_machine.specs.Part.{Part, Reader, Writer, WriterProxy, own_proxie
 abbrev pub bit_if : Bool → ℕ → ℕ
 bit_if b bit = if b then bit else 0
 
--- The flagged statuses of a reader that knows these writers, as a mask (2.3.3): REQUESTED_INCOMPATIBLE_QOS;
--- SAMPLE_LOST, where changes were passed over since it was looked at; DATA_AVAILABLE, where a sample came since the last
--- read or take, and no listener was told of it; LIVELINESS_CHANGED, where a writer became alive, or not alive, since it
--- was looked at; and SUBSCRIPTION_MATCHED.
+-- The flagged statuses of a reader that knows these writers, as a mask (2.3.3): SAMPLE_LOST, where changes were passed
+-- over since it was looked at; DATA_AVAILABLE, where a sample came since the last read or take, and no listener was told
+-- of it; LIVELINESS_CHANGED, where a writer became alive, or not alive, since it was looked at; and SUBSCRIPTION_MATCHED.
 abbrev pub reader_statuses : List WriterProxy → Reader → StatusMask
 reader_statuses rows r = record {
-  0 = bit_if (is_misfit_flagged r.misfits) requested_incompatible_qos_bit
-      + (bit_if (is_after r.seen.entries_at_lost (passed_at r.happened)) sample_lost_bit
+  0 = bit_if (is_after r.seen.entries_at_lost (passed_at r.happened)) sample_lost_bit
       + (bit_if (is_after r.seen.entries_at_data (data_available_at r.qos r.happened)) data_available_bit
       + (bit_if (is_after r.seen.entries_at_turn (turned_at r.happened)) liveliness_changed_bit
-      + bit_if (is_match_flagged r.matches (attached_count rows)) subscription_matched_bit)));
+      + bit_if (is_match_flagged r.matches (attached_count rows)) subscription_matched_bit));
 }
 
--- The flagged statuses of a writer, as a mask (2.3.3): OFFERED_INCOMPATIBLE_QOS; LIVELINESS_LOST, where its liveliness
--- was lost since that was looked at; and PUBLICATION_MATCHED.
+-- The flagged statuses of a writer, as a mask (2.3.3): LIVELINESS_LOST, where its liveliness was lost since that was
+-- looked at, and PUBLICATION_MATCHED.
 abbrev pub writer_statuses : Writer → StatusMask
 writer_statuses w = record {
-  0 = bit_if (is_misfit_flagged w.misfits) offered_incompatible_qos_bit
-      + (bit_if (nat_lt 0 (liveliness_lost_status w.lease w.written).total_count_change) liveliness_lost_bit
-      + bit_if (is_match_flagged w.matches (length w.matched)) publication_matched_bit);
+  0 = bit_if (nat_lt 0 (liveliness_lost_status w.lease w.written).total_count_change) liveliness_lost_bit
+      + bit_if (is_match_flagged w.matches (length w.matched)) publication_matched_bit;
 }
 
 -- the flagged statuses of an entity; the participant has none of its own (Entity, get_status_changes)

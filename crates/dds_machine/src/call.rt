@@ -199,8 +199,8 @@ pub enum Call {
     },
     /// A writer is told of a reader of its topic: the two are matched from now on (RTPS 2.5, 8.4.7.4,
     /// matched_reader_add), and what the writer has made is not owed (DDS 1.4, 2.2.3, DURABILITY: VOLATILE).
-    /// `BadParameter` for a reader that is none of the writer's topic, `PreconditionNotMet` where the two are matched, or
-    /// do not fit, as the writer was told last. It sends nothing.
+    /// `BadParameter` for a reader that is none of the writer's topic, `PreconditionNotMet` where the two are matched.
+    /// It sends nothing.
     MatchReader {
         writer: u8,
         reader: Endpoint,
@@ -219,8 +219,7 @@ pub enum Call {
     /// A reader is told of a writer of its topic: the two are matched from now on, and its place in the writer's list
     /// begins where it was, or further on, by what comes of that writer (RTPS 2.5, 8.4.10.3, matched_writer_add). It
     /// answers the publication handle. `BadParameter` for a writer that is none of the reader's topic,
-    /// `PreconditionNotMet` where the two are matched, or do not fit, as the reader was told last. It sends nothing, and
-    /// is never refused for want of memory.
+    /// `PreconditionNotMet` where the two are matched. It sends nothing, and is never refused for want of memory.
     MatchWriter {
         reader: u8,
         writer: Endpoint,
@@ -243,10 +242,8 @@ pub enum Call {
     GetSubscriptionMatched {
         reader: u8,
     },
-    /// A writer is told of a reader that it may not know, under a name of the caller's choice. Where the writer offers
-    /// what it asks for, the two are matched from now on, as by `MatchReader`, and the writer knows it from then on as
-    /// one of its topic. Else the policies that do not fit are answered, the two are not matched, and
-    /// OFFERED_INCOMPATIBLE_QOS counts that, unless the writer was told the same of that reader last. `BadParameter` where the
+    /// A writer is told of a reader that it may not know, under a name of the caller's choice: the two are matched from
+    /// now on, as by `MatchReader`, and the writer knows it from then on as one of its topic. `BadParameter` where the
     /// peer has no such writer, where the number of the participant or of the reader is 0, the prefix is all zeros or
     /// the entity is no reader, and where the name and the GUID don't go with those that are known: a name has one GUID,
     /// a GUID one name, and the number of a participant one prefix. So it is where the peer knows the reader as a
@@ -254,38 +251,24 @@ pub enum Call {
     /// `PreconditionNotMet` where the two are matched, `OutOfResources` where the writer knows 16 other readers of that
     /// participant, or 2^31 - 1 others. It sends nothing.
     ///
-    /// RTPS 2.5, 8.4.7.4 (matched_reader_add); DDS 1.4, 2.2.3 (RELIABILITY; the policies that are compared), 2.2.4.1.
+    /// RTPS 2.5, 8.4.7.4 (matched_reader_add); DDS 1.4, 2.2.3 (RELIABILITY).
     MeetReader {
         writer: u8,
         far: FarReader,
         /// As of `MatchReader`.
         greeted: bool,
     },
-    /// A reader is told of a writer that it may not know, under a name of the caller's choice. Where that one offers what
-    /// the reader asks for, the two are matched from now on, as by `MatchWriter`. One that it does not know has the next
-    /// publication handle, which is answered. Else the policies that do not fit are answered, the two are not matched,
-    /// and REQUESTED_INCOMPATIBLE_QOS counts that, unless the reader was told the same of that writer last.
+    /// A reader is told of a writer that it may not know, under a name of the caller's choice: the two are matched from
+    /// now on, as by `MatchWriter`. One that it does not know has the next publication handle, which is answered.
     /// `BadParameter` where the peer has no such reader, where the numbers, the GUID and the name are as they may not be
     /// for `MeetReader`, the entity is no writer, or the writer's lease is 0, or 2^31 seconds and more;
     /// `PreconditionNotMet` where the two are matched, `OutOfResources` where the reader knows 2^31 - 1 other writers.
     /// It sends nothing.
     ///
-    /// RTPS 2.5, 8.4.10.3 (matched_writer_add); DDS 1.4, 2.2.3 (the policies that are compared), 2.2.4.1.
+    /// RTPS 2.5, 8.4.10.3 (matched_writer_add).
     MeetWriter {
         reader: u8,
         far: FarWriter,
-    },
-    /// Looks at how often a writer was told of a reader that asks for more than it offers, in all and since the last
-    /// look, and of which policies (DDS 1.4, 2.2.2.4, get_offered_incompatible_qos_status). It is never refused for want
-    /// of memory.
-    GetOfferedIncompatibleQos {
-        writer: u8,
-    },
-    /// Looks at how often a reader was told of a writer that offers less than it asks for, in all and since the last
-    /// look, and of which policies (DDS 1.4, 2.2.2.5, get_requested_incompatible_qos_status). It is never refused for
-    /// want of memory.
-    GetRequestedIncompatibleQos {
-        reader: u8,
     },
 }
 
@@ -456,12 +439,6 @@ impl Clone for Call {
                 reader: *reader,
                 far: *far,
             },
-            Call::GetOfferedIncompatibleQos { writer } => {
-                Call::GetOfferedIncompatibleQos { writer: *writer }
-            }
-            Call::GetRequestedIncompatibleQos { reader } => {
-                Call::GetRequestedIncompatibleQos { reader: *reader }
-            }
         })
     }
 }

@@ -12,7 +12,8 @@ pub struct FarReader {
     pub endpoint: Endpoint,
     /// Its GUID, which no other reader has.
     pub guid: Guid,
-    /// What it asks for. Its RELIABILITY can't change.
+    /// What it asks for. Of this its RELIABILITY counts here, which can't change. Whether the writer offers it all is
+    /// for whoever tells of the reader.
     pub requested: Policies,
 }
 
@@ -23,16 +24,7 @@ pub struct FarWriter {
     pub endpoint: Endpoint,
     /// Its GUID, which no other writer has.
     pub guid: Guid,
-    /// What it offers. Its OWNERSHIP_STRENGTH, and its lease, if it asserts itself by topic, are kept where the reader does
-    /// not know it.
+    /// What it offers. Of this OWNERSHIP_STRENGTH counts here, and its lease, if it asserts itself by topic, where the
+    /// reader does not know it; whether that is all the reader asks for is for whoever tells of the writer.
     pub offered: Policies,
-}
-
-/// A far end that does not fit, as an end was told of it last.
-#[derive(Clone, Copy, Debug, PartialEq, Eq)]
-pub struct Misfit {
-    /// The name by which the peer speaks of it.
-    pub end: Endpoint,
-    /// What it offers, or asks for.
-    pub policies: Policies,
 }

@@ -15,8 +15,8 @@ mod reply;
 pub use call::Call;
 pub use dds_base::{
     Endpoint, LivelinessChangedStatus, LivelinessLostStatus, MatchedStatus, PassedRun,
-    SampleLostStatus, UnfitPolicies,
+    SampleLostStatus,
 };
 pub use event::WorldEvent;
-pub use far::{FarReader, FarWriter, Misfit};
+pub use far::{FarReader, FarWriter};
 pub use reply::{Move, Reply, Report};

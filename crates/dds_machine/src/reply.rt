@@ -4,10 +4,10 @@
 
 use dds_base::{
     Code, Endpoint, Handle, Key, LivelinessChangedStatus, LivelinessLostStatus, MatchedStatus,
-    PassedRun, Sample, SampleLostStatus, Sequence, Sn, UnfitPolicies,
+    PassedRun, Sample, SampleLostStatus, Sequence, Sn,
 };
 use dds_conditions::Cond;
-use dds_notices::{IncompatibleQosStatus, StatusMask};
+use dds_notices::StatusMask;
 
 /// What a delivery moved. Peers, writers and readers are numbered from 1.
 ///
@@ -79,11 +79,6 @@ pub enum Reply {
     LivelinessLost(LivelinessLostStatus),
     /// A look at PUBLICATION_MATCHED of a writer, or at SUBSCRIPTION_MATCHED of a reader.
     Matched(MatchedStatus),
-    /// The policies that do not fit of an end that was met: the two are not matched. It is no refusal: the end is known
-    /// from then on, and a status has counted it, unless it had been told so last.
-    Incompatible(UnfitPolicies),
-    /// A look at OFFERED_INCOMPATIBLE_QOS of a writer, or at REQUESTED_INCOMPATIBLE_QOS of a reader.
-    IncompatibleQos(IncompatibleQosStatus),
     /// The number of the condition or of the WaitSet that was made, from 1.
     Created(u32),
     /// Whether a condition is true.

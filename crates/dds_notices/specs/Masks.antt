@@ -5,15 +5,7 @@ use Rattle.std.specs.Prelude.{ℕ, Bool}
 use Rattle.dds_base.specs.Access.{has_bit}
 use Rattle.dds_notices.specs.declared.mask.StatusMask.{StatusMask}
 use Rattle.dds_notices.specs.declared.notice.Status.{Status}
-use Rattle.dds_notices.specs.declared.notice.Status.TheVariants.{OfferedIncompatibleQos, RequestedIncompatibleQos, SampleLost, DataAvailable, LivelinessLost, LivelinessChanged, PublicationMatched, SubscriptionMatched}
-
--- OFFERED_INCOMPATIBLE_QOS_STATUS
-abbrev pub offered_incompatible_qos_bit : ℕ
-offered_incompatible_qos_bit = 32
-
--- REQUESTED_INCOMPATIBLE_QOS_STATUS
-abbrev pub requested_incompatible_qos_bit : ℕ
-requested_incompatible_qos_bit = 64
+use Rattle.dds_notices.specs.declared.notice.Status.TheVariants.{SampleLost, DataAvailable, LivelinessLost, LivelinessChanged, PublicationMatched, SubscriptionMatched}
 
 -- SAMPLE_LOST_STATUS
 abbrev pub sample_lost_bit : ℕ
@@ -41,8 +33,6 @@ subscription_matched_bit = 16384
 
 -- the bit of a status, whichever its values are
 abbrev pub status_bit : Status → ℕ
-status_bit (OfferedIncompatibleQos values) = offered_incompatible_qos_bit
-status_bit (RequestedIncompatibleQos values) = requested_incompatible_qos_bit
 status_bit (SampleLost values) = sample_lost_bit
 status_bit DataAvailable = data_available_bit
 status_bit (LivelinessLost values) = liveliness_lost_bit

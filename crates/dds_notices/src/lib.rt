@@ -4,7 +4,6 @@
 //! Not here: when a status is raised.
 #![tactic(auto)]
 
-mod incompatible;
 pub mod laws;
 mod listener;
 mod mask;
@@ -13,7 +12,6 @@ mod recorder;
 mod slot;
 mod slots;
 
-pub use incompatible::{IncompatibleQosStatus, PolicyCounts};
 pub use listener::Listener;
 pub use mask::StatusMask;
 pub use notice::{Notice, Status};

@@ -15,8 +15,6 @@ pub struct StatusMask(u32);
 
 bitflag_items! {
     impl StatusMask: u32 {
-        const OFFERED_INCOMPATIBLE_QOS = 32;
-        const REQUESTED_INCOMPATIBLE_QOS = 64;
         const SAMPLE_LOST = 128;
         const DATA_AVAILABLE = 1024;
         const LIVELINESS_LOST = 2048;
@@ -32,7 +30,7 @@ impl Flags for StatusMask {
 
     ghost exact = { ⊤ };
 
-    ghost table = { (codes "OFFERED_INCOMPATIBLE_QOS", 32) ∷ (codes "REQUESTED_INCOMPATIBLE_QOS", 64) ∷ (codes "SAMPLE_LOST", 128) ∷ (codes "DATA_AVAILABLE", 1024) ∷ (codes "LIVELINESS_LOST", 2048) ∷ (codes "LIVELINESS_CHANGED", 4096) ∷ (codes "PUBLICATION_MATCHED", 8192) ∷ (codes "SUBSCRIPTION_MATCHED", 16384) ∷ (codes "ANY", 65535) ∷ [] };
+    ghost table = { (codes "SAMPLE_LOST", 128) ∷ (codes "DATA_AVAILABLE", 1024) ∷ (codes "LIVELINESS_LOST", 2048) ∷ (codes "LIVELINESS_CHANGED", 4096) ∷ (codes "PUBLICATION_MATCHED", 8192) ∷ (codes "SUBSCRIPTION_MATCHED", 16384) ∷ (codes "ANY", 65535) ∷ [] };
 
     ghost set_of = { λ m. m.0 };
 
@@ -59,12 +57,6 @@ impl StatusMask {
         ensures named { result ≡ names self status.now }
     {
         match status {
-            Status::OfferedIncompatibleQos(_) => {
-                self.contains(StatusMask::OFFERED_INCOMPATIBLE_QOS)
-            }
-            Status::RequestedIncompatibleQos(_) => {
-                self.contains(StatusMask::REQUESTED_INCOMPATIBLE_QOS)
-            }
             Status::SampleLost(_) => self.contains(StatusMask::SAMPLE_LOST),
             Status::DataAvailable => self.contains(StatusMask::DATA_AVAILABLE),
             Status::LivelinessLost(_) => self.contains(StatusMask::LIVELINESS_LOST),

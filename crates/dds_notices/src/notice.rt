@@ -2,7 +2,6 @@
 //!
 //! DDS 1.4, 2.2.4.1 (communication statuses).
 
-use crate::incompatible::IncompatibleQosStatus;
 use dds_base::{
     Entity, LivelinessChangedStatus, LivelinessLostStatus, MatchedStatus, SampleLostStatus,
 };
@@ -12,10 +11,6 @@ use dds_base::{
 /// DDS 1.4, 2.2.4.1.
 #[derive(Clone, Copy, Debug, PartialEq, Eq)]
 pub enum Status {
-    /// OFFERED_INCOMPATIBLE_QOS, of a writer.
-    OfferedIncompatibleQos(IncompatibleQosStatus),
-    /// REQUESTED_INCOMPATIBLE_QOS, of a reader.
-    RequestedIncompatibleQos(IncompatibleQosStatus),
     /// SAMPLE_LOST, of a reader.
     SampleLost(SampleLostStatus),
     /// DATA_AVAILABLE, of a reader. It has no values.

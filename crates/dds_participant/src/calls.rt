@@ -3,8 +3,8 @@
 use crate::line::Line;
 use bitflags::Flags;
 use dds_base::{
-    Endpoint, Entity, Guid, Key, LivelinessKind, MAX_VALUE, Masks, OwnershipQos, Policies,
-    ReliabilityQos, Scope, Selection,
+    Endpoint, Entity, Guid, Key, LivelinessKind, MAX_VALUE, Masks, Policies, ReliabilityQos, Scope,
+    Selection,
 };
 use dds_conditions::Cond;
 use dds_machine::{Call, FarReader, FarWriter};
@@ -113,33 +113,21 @@ fn push_word_if(line: &mut Line, word: &str, stands: bool) {
     }
 }
 
-/// Whether ownership is exclusive by these policies.
-fn is_exclusive(policies: &Policies) -> bool {
-    policies.ownership == OwnershipQos::Exclusive
-}
-
-/// A lease, in units of 2^-32 second, if it ends.
-fn push_units(line: &mut Line, lease: Option<u64>) {
-    if let Some(units) = lease {
-        line.push(format_args!(" lease={units}"));
-    }
-}
-
 /// A writer of ours meets a reader: what it asks for, as far as a writer looks at it.
 fn push_met_reader(line: &mut Line, writer: u8, far: &FarReader, greeted: bool) {
     push_of_writer(line, "meet", writer, far.endpoint);
     push_guid(line, &far.guid);
     let is_best_effort = far.requested.reliability == ReliabilityQos::BestEffort;
     push_word_if(line, " besteffort", is_best_effort);
-    push_word_if(line, " exclusive", is_exclusive(&far.requested));
-    push_units(line, far.requested.liveliness.lease.units());
     push_word_if(line, " greeted", greeted);
 }
 
 /// The lease of a writer that asserts itself by topic.
 fn push_lease(line: &mut Line, offered: &Policies) {
-    if let LivelinessKind::ManualByTopic = offered.liveliness.kind {
-        push_units(line, offered.liveliness.lease.units());
+    if let LivelinessKind::ManualByTopic = offered.liveliness.kind
+        && let Some(units) = offered.liveliness.lease.units()
+    {
+        line.push(format_args!(" lease={units}"));
     }
 }
 
@@ -147,7 +135,6 @@ fn push_lease(line: &mut Line, offered: &Policies) {
 fn push_met_writer(line: &mut Line, reader: u8, far: &FarWriter) {
     push_of_reader(line, "meet", reader, far.endpoint);
     push_guid(line, &far.guid);
-    push_word_if(line, " exclusive", is_exclusive(&far.offered));
     let strength = far.offered.strength;
     line.push(format_args!(" strength={strength}"));
     push_lease(line, &far.offered);
@@ -169,7 +156,6 @@ fn push_writer_call(line: &mut Line, call: &Call) {
         }
         Call::GetLivelinessLost { writer } => line.push(format_args!("livelost w{writer}")),
         Call::GetPublicationMatched { writer } => line.push(format_args!("matched w{writer}")),
-        Call::GetOfferedIncompatibleQos { writer } => line.push(format_args!("unfit w{writer}")),
         _ => {}
     }
 }
@@ -190,7 +176,6 @@ fn push_reader_call(line: &mut Line, call: &Call) {
         Call::GetSampleLost { reader } => line.push(format_args!("lost r{reader}")),
         Call::GetLivelinessChanged { reader } => line.push(format_args!("changed r{reader}")),
         Call::GetSubscriptionMatched { reader } => line.push(format_args!("matched r{reader}")),
-        Call::GetRequestedIncompatibleQos { reader } => line.push(format_args!("unfit r{reader}")),
         Call::ReadByCondition {
             reader,
             scope,
@@ -332,8 +317,7 @@ pub fn push_call(line: &mut Line, call: &Call) {
         | Call::AssertLiveliness { .. }
         | Call::SetStrength { .. }
         | Call::GetLivelinessLost { .. }
-        | Call::GetPublicationMatched { .. }
-        | Call::GetOfferedIncompatibleQos { .. } => push_writer_call(line, call),
+        | Call::GetPublicationMatched { .. } => push_writer_call(line, call),
         Call::Read { .. }
         | Call::Take { .. }
         | Call::GetKeyValue { .. }
@@ -341,7 +325,6 @@ pub fn push_call(line: &mut Line, call: &Call) {
         | Call::GetSampleLost { .. }
         | Call::GetLivelinessChanged { .. }
         | Call::GetSubscriptionMatched { .. }
-        | Call::GetRequestedIncompatibleQos { .. }
         | Call::ReadByCondition { .. }
         | Call::TakeByCondition { .. } => push_reader_call(line, call),
         _ => push_other_call(line, call),

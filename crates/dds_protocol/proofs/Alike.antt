@@ -4,21 +4,21 @@ use Rattle.dds_base.specs.declared.entity.Entity.{Entity}
 use Rattle.dds_base.specs.declared.entity.Entity.TheVariants as entity
 use Rattle.dds_base.specs.Written.{LookedAt, changes_of, counts_of}
 use Rattle.dds_notices.specs.declared.notice.Status.{Status}
-use Rattle.dds_notices.specs.declared.notice.Status.TheVariants.{OfferedIncompatibleQos, PublicationMatched, RequestedIncompatibleQos, SubscriptionMatched}
+use Rattle.dds_notices.specs.declared.notice.Status.TheVariants.{PublicationMatched, SubscriptionMatched}
 use Rattle.dds_notices.specs.Listeners.{Places}
 use Rattle.dds_machine.specs.Calls.{with_written}
-use Rattle.dds_machine.specs.Matching.{reader_looked_at, reader_saw_misfits, writer_looked_at, writer_saw_misfits}
+use Rattle.dds_machine.specs.Matching.{reader_looked_at, writer_looked_at}
 use Rattle.dds_machine.specs.Noticing.{at_end, seen_by, told_of}
 use Rattle.dds_machine.specs.Numbered.{numbered, with_numbered}
 use Rattle.dds_machine.specs.Part.{Part, Reader, Rtps, Writer, no_reader, no_writer, own_proxies, own_reader, own_writer}
 use Rattle.dds_protocol.proofs.AtEnds.{end_so}
-use Rattle.dds_protocol.proofs.Growth.{WriterGrows, entered-grows, looked_at-grows, misfits-grow, writer_on, writer_same}
+use Rattle.dds_protocol.proofs.Growth.{WriterGrows, entered-grows, looked_at-grows, writer_on, writer_same}
 use Rattle.dds_machine.proofs.Tables.{length-with_numbered, numbered-cases}
 
 -- a writer has only been looked at since
 pub record AlikeWriters (old new : Writer) : Type 0 where
   pub grows : WriterGrows old new
-  pub rest : new ≡ record old { written = new.written; matches = new.matches; misfits = new.misfits }
+  pub rest : new ≡ record old { written = new.written; matches = new.matches }
   pub changes : changes_of new.written ≡ changes_of old.written
   pub counts : counts_of new.written ≡ counts_of old.written
 
@@ -28,8 +28,7 @@ writers_same w = record { grows = writer_same w; rest = refl; changes = refl; co
 writers_on : (a b c : Writer) → AlikeWriters a b → AlikeWriters b c → AlikeWriters a c
 writers_on a b c f g = record {
   grows = writer_on a b c f.grows g.grows;
-  rest = g.rest
-      ∙ ap (λ (w : Writer). record w { written = c.written; matches = c.matches; misfits = c.misfits }) f.rest;
+  rest = g.rest ∙ ap (λ (w : Writer). record w { written = c.written; matches = c.matches }) f.rest;
   changes = g.changes ∙ f.changes;
   counts = g.counts ∙ f.counts;
 }
@@ -45,14 +44,6 @@ looked w = record {
 looked_matches : (w : Writer) → AlikeWriters w (writer_looked_at w)
 looked_matches w = record {
   grows = looked_at-grows w;
-  rest = refl;
-  changes = refl;
-  counts = refl;
-}
-
-looked_misfits : (w : Writer) → AlikeWriters w (writer_saw_misfits w)
-looked_misfits w = record {
-  grows = misfits-grow w (writer_saw_misfits w).misfits;
   rest = refl;
   changes = refl;
   counts = refl;
@@ -156,18 +147,12 @@ told_alike part entity.Participant status = alike_by part (told_of part entity.P
 told_alike part (entity.Writer n) (PublicationMatched values) =
     writer_alike part n (writer_looked_at (own_writer part n))
     (told_of part (entity.Writer n) (PublicationMatched values)).dds.listeners (looked_matches (own_writer part n))
-told_alike part (entity.Writer n) (OfferedIncompatibleQos values) =
-    writer_alike part n (writer_saw_misfits (own_writer part n))
-    (told_of part (entity.Writer n) (OfferedIncompatibleQos values)).dds.listeners (looked_misfits (own_writer part n))
 told_alike part (entity.Writer n) status =
     writer_alike part n (with_written (own_writer part n) LookedAt)
     (told_of part (entity.Writer n) status).dds.listeners (looked (own_writer part n))
 told_alike part (entity.Reader n) (SubscriptionMatched values) =
     reader_alike part n (reader_looked_at (own_proxies part n) (own_reader part n))
     (told_of part (entity.Reader n) (SubscriptionMatched values)).dds.listeners refl refl
-told_alike part (entity.Reader n) (RequestedIncompatibleQos values) =
-    reader_alike part n (reader_saw_misfits (own_reader part n))
-    (told_of part (entity.Reader n) (RequestedIncompatibleQos values)).dds.listeners refl refl
 told_alike part (entity.Reader n) status =
     reader_alike part n (record (own_reader part n) { seen = seen_by (own_reader part n) status })
     (told_of part (entity.Reader n) status).dds.listeners refl refl

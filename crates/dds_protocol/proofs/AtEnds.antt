@@ -13,15 +13,14 @@ use Rattle.dds_base.specs.Statuses.{sample_lost_status}
 use Rattle.dds_base.specs.StatusFlags.{brings_sample, data_available_at, is_after, turned_at}
 use Rattle.dds_base.specs.Written.{liveliness_lost_status}
 use Rattle.dds_notices.specs.declared.notice.Status.{Status}
-use Rattle.dds_notices.specs.declared.notice.Status.TheVariants.{OfferedIncompatibleQos, RequestedIncompatibleQos, SampleLost, DataAvailable, LivelinessLost, LivelinessChanged, PublicationMatched, SubscriptionMatched}
+use Rattle.dds_notices.specs.declared.notice.Status.TheVariants.{SampleLost, DataAvailable, LivelinessLost, LivelinessChanged, PublicationMatched, SubscriptionMatched}
 use Rattle.dds_notices.proofs.ListenerLaws.{NobodyTakes}
 use Rattle.dds_notices.specs.Listeners.{taker_of}
 use Rattle.dds_machine.specs.Passing.{passed_at}
-use Rattle.dds_machine.specs.Part.{Misfits, Part, Reader, Writer, own_proxies, own_reader, own_writer}
-use Rattle.dds_machine.specs.Fitting.{misfit_status, told_times}
+use Rattle.dds_machine.specs.Part.{Part, Reader, Writer, own_proxies, own_reader, own_writer}
 use Rattle.dds_machine.specs.Matching.{attached_count, publication_matched, subscription_matched}
-use Rattle.dds_machine.specs.Noticing.{are_more_misfits, at_end, data_raised, each_told, loss_raised, losses_of, lost_raised, offered_raised, publication_raised, reader_told, requested_raised, subscription_raised, told, told_of, turn_raised, writer_told}
-use Rattle.dds_machine.proofs.InTurn.{data_told, loss_told, lost_told, offered_told, publication_told, requested_told, subscription_told, turn_told}
+use Rattle.dds_machine.specs.Noticing.{at_end, data_raised, each_told, loss_raised, losses_of, lost_raised, publication_raised, reader_told, subscription_raised, told, told_of, turn_raised, writer_told}
+use Rattle.dds_machine.proofs.InTurn.{data_told, loss_told, lost_told, publication_told, subscription_told, turn_told}
 
 -- ---- what holds of each notice
 
@@ -45,30 +44,24 @@ module _ (R : Part → Part → Type 0) (same : (part : Part) → R part part) (
 
   reader_so : (before : Part) (n : ℕ) (part : Part) → R part (reader_told before n part)
   reader_so before n part =
-      let unfit : Part = requested_told before n part in
-      let lost : Part = lost_told before n unfit in
+      let lost : Part = lost_told before n part in
       let data_too : Part = data_told before n lost in
       let turn_too : Part = turn_told before n data_too in
-      on part unfit (reader_told before n part)
-      (told_so part (entity.Reader n) (requested_raised (own_reader before n) (own_reader part n)))
-      (on unfit lost (reader_told before n part)
-      (told_so unfit (entity.Reader n) (lost_raised (own_reader before n) (own_reader unfit n)))
+      on part lost (reader_told before n part)
+      (told_so part (entity.Reader n) (lost_raised (own_reader before n) (own_reader part n)))
       (on lost data_too (reader_told before n part)
       (told_so lost (entity.Reader n) (data_raised (own_reader before n) (own_reader lost n)))
       (on data_too turn_too (reader_told before n part)
       (told_so data_too (entity.Reader n) (turn_raised (own_reader before n) (own_reader data_too n)))
       (told_so turn_too (entity.Reader n)
-      (subscription_raised (own_proxies before n) (own_proxies turn_too n) (own_reader turn_too n))))))
+      (subscription_raised (own_proxies before n) (own_proxies turn_too n) (own_reader turn_too n)))))
 
   writer_so : (before : Part) (n : ℕ) (part : Part) → R part (writer_told before n part)
   writer_so before n part =
-      let unfit : Part = offered_told before n part in
-      let lost : Part = loss_told before n unfit in
-      on part unfit (writer_told before n part)
-      (told_so part (entity.Writer n) (offered_raised (own_writer before n) (own_writer part n)))
-      (on unfit lost (writer_told before n part)
-      (told_so unfit (entity.Writer n) (loss_raised (own_writer before n) (own_writer unfit n)))
-      (told_so lost (entity.Writer n) (publication_raised (own_writer before n) (own_writer lost n))))
+      let lost : Part = loss_told before n part in
+      on part lost (writer_told before n part)
+      (told_so part (entity.Writer n) (loss_raised (own_writer before n) (own_writer part n)))
+      (told_so lost (entity.Writer n) (publication_raised (own_writer before n) (own_writer lost n)))
 
   -- what holds of each notice, and of notices in turn, holds of the end of an event
   pub end_so : (before part : Part) → R part (at_end before part)
@@ -89,7 +82,6 @@ end_keeps f same before part =
 watch_same : (part : Part) (e : Entity) (status : Status) → (told_of part e status).dds.watch ≡ part.dds.watch
 watch_same part entity.Participant status = refl
 watch_same part (entity.Writer n) status = refl
-watch_same part (entity.Reader n) (RequestedIncompatibleQos values) = refl
 watch_same part (entity.Reader n) (SubscriptionMatched values) = refl
 watch_same part (entity.Reader n) status = refl
 
@@ -99,10 +91,8 @@ end_watch before part = end_keeps (λ (p : Part). p.dds.watch) watch_same before
 
 rows_same : (part : Part) (e : Entity) (status : Status) → (told_of part e status).rtps.readers ≡ part.rtps.readers
 rows_same part entity.Participant status = refl
-rows_same part (entity.Writer n) (OfferedIncompatibleQos values) = refl
 rows_same part (entity.Writer n) (PublicationMatched values) = refl
 rows_same part (entity.Writer n) status = refl
-rows_same part (entity.Reader n) (RequestedIncompatibleQos values) = refl
 rows_same part (entity.Reader n) (SubscriptionMatched values) = refl
 rows_same part (entity.Reader n) status = refl
 
@@ -125,24 +115,20 @@ each_untold tell part one (suc n) = ap (λ (p : Part). tell (suc n) p) (each_unt
 
 reader_untold : (before part : Part) → NobodyTakes part.dds.listeners → (n : ℕ) → reader_told before n part ≡ part
 reader_untold before part nobody n =
-    ap (λ (p : Part). subscription_told before n (turn_told before n (data_told before n (lost_told before n p))))
-    (untold part nobody (entity.Reader n) (requested_raised (own_reader before n) (own_reader part n)))
-    ∙ (ap (λ (p : Part). subscription_told before n (turn_told before n (data_told before n p)))
+    ap (λ (p : Part). subscription_told before n (turn_told before n (data_told before n p)))
     (untold part nobody (entity.Reader n) (lost_raised (own_reader before n) (own_reader part n)))
     ∙ (ap (λ (p : Part). subscription_told before n (turn_told before n p))
     (untold part nobody (entity.Reader n) (data_raised (own_reader before n) (own_reader part n)))
     ∙ (ap (λ (p : Part). subscription_told before n p)
     (untold part nobody (entity.Reader n) (turn_raised (own_reader before n) (own_reader part n)))
     ∙ untold part nobody (entity.Reader n)
-    (subscription_raised (own_proxies before n) (own_proxies part n) (own_reader part n)))))
+    (subscription_raised (own_proxies before n) (own_proxies part n) (own_reader part n))))
 
 writer_untold : (before part : Part) → NobodyTakes part.dds.listeners → (n : ℕ) → writer_told before n part ≡ part
 writer_untold before part nobody n =
-    ap (λ (p : Part). publication_told before n (loss_told before n p))
-    (untold part nobody (entity.Writer n) (offered_raised (own_writer before n) (own_writer part n)))
-    ∙ (ap (λ (p : Part). publication_told before n p)
+    ap (λ (p : Part). publication_told before n p)
     (untold part nobody (entity.Writer n) (loss_raised (own_writer before n) (own_writer part n)))
-    ∙ untold part nobody (entity.Writer n) (publication_raised (own_writer before n) (own_writer part n)))
+    ∙ untold part nobody (entity.Writer n) (publication_raised (own_writer before n) (own_writer part n))
 
 -- an event's end changes nothing then
 pub end_untold : (before part : Part) → NobodyTakes part.dds.listeners → at_end before part ≡ part
@@ -208,17 +194,9 @@ same_number n status = ap (λ (b : Bool). if b then None else status) (eqb-refl 
 not_raised : (raised : Bool) (status : Status) → raised ≡ false → (if raised then Some status else None) ≡ None
 not_raised raised status not = ap (λ (x : Bool). if x then Some status else None) not
 
--- there are no more misfits than there are
-no_more_misfits : (misfits : Misfits) → are_more_misfits misfits misfits ≡ false
-no_more_misfits misfits =
-    not_above (told_times (length misfits.told)) (told_times (length misfits.told)) (omega arith)
-
 reader_quiet : (part : Part) (n : ℕ) → reader_told part n part ≡ part
 reader_quiet part n =
     let r : Reader = own_reader part n in
-    let unfit : requested_raised r r ≡ None =
-    not_raised (are_more_misfits r.misfits r.misfits) (RequestedIncompatibleQos (misfit_status r.misfits))
-    (no_more_misfits r.misfits) in
     let lost : lost_raised r r ≡ None =
     not_raised (is_after (length r.happened) (passed_at r.happened))
     (SampleLost (sample_lost_status r.happened r.seen.lost)) (passed_within r.happened) in
@@ -229,26 +207,21 @@ reader_quiet part n =
     not_raised (is_after (length r.happened) (turned_at r.happened))
     (LivelinessChanged (liveliness_changed_status r.qos r.happened r.seen.alive r.seen.not_alive))
     (turned_within r.happened) in
-    ap (λ (o : Option Status).
-    subscription_told part n (turn_told part n (data_told part n (lost_told part n (told part (entity.Reader n) o))))) unfit
-    ∙ (ap (λ (o : Option Status). subscription_told part n (turn_told part n (data_told part n (told part (entity.Reader n) o))))
+    ap (λ (o : Option Status). subscription_told part n (turn_told part n (data_told part n (told part (entity.Reader n) o))))
     lost
     ∙ (ap (λ (o : Option Status). subscription_told part n (turn_told part n (told part (entity.Reader n) o))) data_too
     ∙ (ap (λ (o : Option Status). subscription_told part n (told part (entity.Reader n) o)) turned
     ∙ ap (λ (o : Option Status). told part (entity.Reader n) o)
-    (same_number (attached_count (own_proxies part n)) (Some (SubscriptionMatched (subscription_matched (own_proxies part n) r)))))))
+    (same_number (attached_count (own_proxies part n)) (Some (SubscriptionMatched (subscription_matched (own_proxies part n) r))))))
 
 writer_quiet : (part : Part) (n : ℕ) → writer_told part n part ≡ part
 writer_quiet part n =
     let w : Writer = own_writer part n in
-    ap (λ (o : Option Status). publication_told part n (loss_told part n (told part (entity.Writer n) o)))
-    (not_raised (are_more_misfits w.misfits w.misfits) (OfferedIncompatibleQos (misfit_status w.misfits))
-    (no_more_misfits w.misfits))
-    ∙ (ap (λ (o : Option Status). publication_told part n (told part (entity.Writer n) o))
+    ap (λ (o : Option Status). publication_told part n (told part (entity.Writer n) o))
     (not_raised (nat_lt (losses_of w) (losses_of w)) (LivelinessLost (liveliness_lost_status w.lease w.written))
     (not_above (losses_of w) (losses_of w) (omega arith)))
     ∙ ap (λ (o : Option Status). told part (entity.Writer n) o)
-    (same_number (length w.matched) (Some (PublicationMatched (publication_matched w)))))
+    (same_number (length w.matched) (Some (PublicationMatched (publication_matched w))))
 
 -- an event that changes nothing raises nothing, and nobody is told
 pub end_same : (part : Part) → at_end part part ≡ part

@@ -11,7 +11,6 @@ use Rattle.dds_base.specs.declared.happening.Happening.{Happening}
 use Rattle.dds_base.specs.declared.happening.Happening.TheVariants.{Read as HasRead, Took}
 use Rattle.dds_base.specs.declared.happening.SamplePosition.{SamplePosition}
 use Rattle.dds_base.specs.declared.selection.Selection.{Selection}
-use Rattle.dds_base.specs.declared.unfit.UnfitPolicies.{UnfitPolicies}
 use Rattle.dds_notices.specs.declared.mask.StatusMask.{StatusMask}
 use Rattle.dds_conditions.specs.declared.condition.Cond.{Cond}
 use Rattle.dds_conditions.specs.declared.waiting.Waiting.{Waiting}
@@ -19,10 +18,10 @@ use Rattle.dds_conditions.specs.Watched.{Watched, with_enabled, without}
 use Rattle.dds_machine.specs.declared.call.Call.{Call}
 use Rattle.dds_machine.specs.declared.call.Call.TheVariants as call
 use Rattle.dds_machine.specs.declared.reply.Reply.{Reply}
-use Rattle.dds_machine.specs.declared.reply.Reply.TheVariants.{Done, Incompatible, InstanceHandle, Samples, KeyValue, Refused}
+use Rattle.dds_machine.specs.declared.reply.Reply.TheVariants.{Done, InstanceHandle, Samples, KeyValue, Refused}
 use Rattle.dds_machine.specs.Part.{Part, Dds, Seen, own_proxies, publication_among}
-use Rattle.dds_machine.specs.Calls.{after_look, after_matches_look, after_misfits_look, with_happening, IsDoneUnless, IsAnswered, IsAnsweredInMemory, AnswersLook, AnswersAccess, AnswersByCondition, AnswersTelling, AnswersMeeting, Answers, handle_once_met, far_reader_told, reader_told, far_writer_told, unfit_reader, unfit_reader_told, unfit_writer, unfit_writer_told}
-use Rattle.dds_machine.specs.Matching.{Telling, MatchReader, UnmatchReader, MatchWriter, UnmatchWriter, MeetReader, MeetWriter, MissReader, MissWriter, seen_after_telling}
+use Rattle.dds_machine.specs.Calls.{after_look, after_matches_look, with_happening, IsDoneUnless, IsAnswered, IsAnsweredInMemory, AnswersLook, AnswersAccess, AnswersByCondition, AnswersTelling, Answers, handle_once_met, far_reader_told, reader_told, far_writer_told}
+use Rattle.dds_machine.specs.Matching.{Telling, MatchReader, UnmatchReader, MatchWriter, UnmatchWriter, MeetReader, MeetWriter, seen_after_telling}
 use Rattle.dds_machine.specs.Watching.{Test, Tests}
 
 -- of the WaitSets: nothing; one of them is another, or none; there is one more; or a condition is detached from each
@@ -33,8 +32,7 @@ pub data SetsChange (old new : List (Option Waiting)) : Type 0 where
   all_without : (c : Cond) → new ≡ map (without c) old → SetsChange old new
 
 -- nothing; an access is entered at a reader; a reader's statuses were looked at; this is watched from then on, with the
--- filters that there were; an end is told of a match, or that it is over, or of one that does not fit; or a reader's
--- matches were looked at, or its misfits
+-- filters that there were; an end is told of a match, or that it is over; or a reader's matches were looked at
 pub data CallChange (old : Part) (new : Dds) : Type 0 where
   unchanged : new ≡ old.dds → CallChange old new
   reads : (reader : ℕ) (samples : List SamplePosition) → new ≡ with_happening old reader (HasRead samples)
@@ -47,7 +45,6 @@ pub data CallChange (old : Part) (new : Dds) : Type 0 where
       → CallChange old new
   is_told : (telling : Telling) → new ≡ seen_after_telling old telling → CallChange old new
   sees_matches : (reader : ℕ) → new ≡ after_matches_look old reader → CallChange old new
-  sees_misfits : (reader : ℕ) → new ≡ after_misfits_look old reader → CallChange old new
 
 -- a telling leaves what is watched
 pub telling_watch : (old : Part) (t : Telling) → (seen_after_telling old t).watch ≡ old.dds.watch
@@ -57,8 +54,6 @@ telling_watch old (MatchWriter r w) = refl
 telling_watch old (UnmatchWriter r w) = refl
 telling_watch old (MeetReader w v) = refl
 telling_watch old (MeetWriter r w as_writer) = refl
-telling_watch old (MissReader w v requested) = refl
-telling_watch old (MissWriter r w as_writer offered) = refl
 
 -- ---- by what is then there
 
@@ -67,9 +62,6 @@ by_look old reader seen = looks reader seen refl
 
 by_matches : (old : Part) (reader : ℕ) → CallChange old (after_matches_look old reader)
 by_matches old reader = sees_matches reader refl
-
-by_misfits : (old : Part) (reader : ℕ) → CallChange old (after_misfits_look old reader)
-by_misfits old reader = sees_misfits reader refl
 
 by_watch : (old : Part) (after : Watched) → after.filters ≡ old.dds.watch.filters
     → SetsChange old.dds.watch.wait_sets after.wait_sets → CallChange old (record old.dds { watch = after })
@@ -100,7 +92,6 @@ ruleset after_calls = (
   unchanged,
   by_look,
   by_matches,
-  by_misfits,
   by_watch,
   as_before,
   by_one,
@@ -160,13 +151,6 @@ told_or_not : (telling : Telling) (answer : Reply) (old : Part) (reply : Reply) 
 told_or_not telling answer old (Refused code) new a = unchanged a.2
 told_or_not telling answer old reply new a = is_told telling a.2
 
--- an end that is met
-met_or_not : (unfit : UnfitPolicies) (meets misses : Telling) (answer : Reply) (old : Part) (reply : Reply) (new : Dds)
-    → AnswersMeeting unfit meets misses answer old reply new → CallChange old new
-met_or_not unfit meets misses answer old (Incompatible policies) new a = is_told misses a.3
-met_or_not unfit meets misses answer old (Refused code) new a = unchanged a.2
-met_or_not unfit meets misses answer old reply new a = is_told meets a.1.2
-
 -- what any call may change; the last row is for those that need no memory, and are answered in one way
 pub changes_of : (tests : Tests) (old : Part) (c : Call) (reply : Reply) (new : Dds)
     → Answers tests old c reply new → CallChange old new
@@ -199,8 +183,7 @@ changes_of tests old (call.MatchWriter v w) reply new a =
     told_or_not (MatchWriter v w) (InstanceHandle (option_map_or (λ handle. handle) (publication_among (own_proxies old v) w) 0)) old reply new a
 changes_of tests old (call.UnmatchWriter v w) reply new a = told_or_not (UnmatchWriter v w) Done old reply new a
 changes_of tests old (call.MeetReader v far greeted) reply new a =
-    met_or_not (unfit_reader old v far) (far_reader_told v far) (unfit_reader_told v far) Done old reply new a
+    told_or_not (far_reader_told v far) Done old reply new a
 changes_of tests old (call.MeetWriter v far) reply new a =
-    met_or_not (unfit_writer old v far) (far_writer_told v far) (unfit_writer_told v far)
-    (InstanceHandle (handle_once_met old v far.endpoint)) old reply new a
+    told_or_not (far_writer_told v far) (InstanceHandle (handle_once_met old v far.endpoint)) old reply new a
 changes_of tests old c reply new a = answered _ _ _ old reply new (search after_calls) a

@@ -13,9 +13,8 @@ use Rattle.dds_base.specs.declared.code.Code.{Code}
 use Rattle.dds_base.specs.declared.code.Code.TheVariants.{OutOfResources}
 use Rattle.dds_base.specs.declared.endpoint.Endpoint.{Endpoint}
 use Rattle.dds_base.specs.Bounds.{max_ends}
-use Rattle.dds_machine.specs.Fitting.{is_misfit}
-use Rattle.dds_machine.specs.Matching.{new_row, Telling, MatchReader, UnmatchReader, MatchWriter, UnmatchWriter, MeetReader, MeetWriter, MissReader, MissWriter, TellStep, is_matched, joined, known_at, knows_reader, knows_reliable, knows_too_many, left, matching_refusal, max_known, may_meet_reader, met, missed, telling_refusal, told_fit}
-use Rattle.dds_machine.specs.Part.{Misfits, Part, ReaderProxy, TopicReader, Writer, no_writer, own_writer, row_of, same_endpoint}
+use Rattle.dds_machine.specs.Matching.{new_row, Telling, MatchReader, UnmatchReader, MatchWriter, UnmatchWriter, MeetReader, MeetWriter, TellStep, is_matched, joined, known_at, knows_reader, knows_reliable, knows_too_many, left, matching_refusal, max_known, may_meet_reader, met, telling_refusal}
+use Rattle.dds_machine.specs.Part.{Part, ReaderProxy, TopicReader, Writer, no_writer, own_writer, row_of, same_endpoint}
 use Rattle.dds_machine.proofs.Tables.{numbered-cases, same_is}
 use Rattle.dds_protocol.specs.Contact.{Contact}
 use Rattle.dds_protocol.specs.DueMessages.{is_told, readers_told}
@@ -399,10 +398,6 @@ or_last : (a b : Bool) → b ≡ true → (a || b) ≡ true
 or_last true b h = refl
 or_last false b h = h
 
--- other misfits
-misfits_few : (w : Writer) (ms : Misfits) → MatchesFew w → MatchesFew (record w { misfits = ms })
-misfits_few w ms m = record { few = m.few; known = m.known; once = m.once; rows = m.rows }
-
 -- one match more, with a reader that the writer may not have known
 met_few : (w : Writer) (v : Endpoint) (reliable : Bool) → knows_too_many w v ≡ false → is_matched w v ≡ false
     → MatchesFew w → MatchesFew (met w v reliable)
@@ -411,27 +406,21 @@ met_few w v reliable few apart m = by (knows_reader w v) refl few
     new : TopicReader
     new = record { reader = v; reliable = reliable }
 
-    fits : MatchesFew (told_fit w v)
-    fits = misfits_few w (told_fit w v).misfits m
-
     after : Bool → Writer
-    after b = if b then told_fit w v else record (told_fit w v) { known = w.known ++ new ∷ [] }
-
-    is_reliable : Bool → Bool
-    is_reliable b = knows_reliable (if b then w else record w { known = w.known ++ new ∷ [] }) v
+    after b = if b then w else record w { known = w.known ++ new ∷ [] }
 
     by : (b : Bool) → knows_reader w v ≡ b
         → (not b && (nat_le max_ends (known_at w v.peer) || nat_le max_known (length w.known))) ≡ false
-        → MatchesFew (joined (after b) v (is_reliable b))
-    by true knows few = joined_few (told_fit w v) v (is_reliable true) knows apart fits
+        → MatchesFew (joined (after b) v (knows_reliable (after b) v))
+    by true knows few = joined_few w v (knows_reliable w v) knows apart m
     by false knows few =
         let here = (or_parts (nat_le max_ends (known_at w v.peer)) (nat_le max_known (length w.known)) few).0 in
         let below : known_at w v.peer < max_ends = grind (arith, nat_tests, here) in
-        let more : MatchesFew (after false) = more_few (told_fit w v) v reliable below fits in
+        let more : MatchesFew (after false) = more_few w v reliable below m in
         let there : knows_reader (after false) v ≡ true =
         row_known w.known new v ∙ or_last (is_some (row_of (λ (k : TopicReader). k.reader) w.known v))
         (same_endpoint v v) (same_self v) in
-        joined_few (after false) v (is_reliable false) there apart more
+        joined_few (after false) v (knows_reliable (after false) v) there apart more
 
 -- ---- a telling
 
@@ -450,23 +439,12 @@ allowed true false h = (refl, refl)
 allowed true true h = absurd cc
 allowed false told h = absurd cc
 
--- so it is where the reader that is told of is known, or does not fit: it is then known, and not matched
-known_there : (known matched unfit : Bool) → matching_refusal (known || unfit) (matched || unfit) ≡ None
-    → (known ≡ true) × (matched ≡ false)
-known_there true false false h = (refl, refl)
-known_there true false true h = absurd cc
-known_there true true unfit h = absurd cc
-known_there false matched false h = absurd cc
-known_there false false true h = absurd cc
-known_there false true true h = absurd cc
-
 after_few : (old : Part) (t : Telling) → telling_refusal old t ≡ None → HasFewMatches old
     → HasFewMatches (after_told old t)
 after_few old (MatchReader k v reliable) none all n =
     ⊎_elim (λ e. subst (λ (w : Writer). MatchesFew w) (sym e) (all n))
     (λ s.
-    let can = known_there (knows_reader (own_writer old k) v) (is_matched (own_writer old k) v)
-    (is_misfit (own_writer old k).misfits v) none in
+    let can = allowed (knows_reader (own_writer old k) v) (is_matched (own_writer old k) v) none in
     subst (λ (w : Writer). MatchesFew w) (sym s.1) (joined_few (own_writer old k) v reliable can.0 can.1 (all k)))
     (numbered-cases old.rtps.writers k (joined (own_writer old k) v reliable) n no_writer)
 after_few old (UnmatchReader k v) none all n =
@@ -486,13 +464,6 @@ after_few old (MeetReader k v) none all n =
     (met_few w v.end v.reliable (not_many (knows_too_many w v.end) both.1) can.1 (all k)))
     (numbered-cases old.rtps.writers k (met w v.end v.reliable) n no_writer)
 after_few old (MeetWriter r w as_writer) none all n = all n
-after_few old (MissReader k v requested) none all n =
-    let w : Writer = own_writer old k in
-    let after : Writer = missed w v.end requested in
-    ⊎_elim (λ e. subst (λ (x : Writer). MatchesFew x) (sym e) (all n))
-    (λ s. subst (λ (x : Writer). MatchesFew x) (sym s.1) (misfits_few w after.misfits (all k)))
-    (numbered-cases old.rtps.writers k after n no_writer)
-after_few old (MissWriter r w as_writer offered) none all n = all n
 
 pub few_told : (old : Part) (t : Telling) (new : Part) → TellStep old t None new → HasFewMatches old → HasFewMatches new
 few_told old t new h all = subst (λ (p : Part). HasFewMatches p) (sym h.1) (after_few old t h.0 all)

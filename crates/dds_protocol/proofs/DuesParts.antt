@@ -10,8 +10,8 @@ use Rattle.dds_machine.specs.declared.reply.Reply.TheVariants.{Done, Refused}
 use Rattle.dds_machine.specs.Numbered.{numbered}
 use Rattle.dds_machine.specs.Part.{Part, Rtps, Writer, no_writer, own_writer, writer_changes}
 use Rattle.dds_machine.specs.Ticks.{writers_ticked, TickStep}
-use Rattle.dds_machine.specs.Calls.{Effect, nothing, writes, tells, looks_at_matches, looks_at_misfits, effect, effect_of, with_written, CallStep}
-use Rattle.dds_machine.specs.Matching.{writer_looked_at, writer_saw_misfits}
+use Rattle.dds_machine.specs.Calls.{Effect, nothing, writes, tells, looks_at_matches, effect, effect_of, with_written, CallStep}
+use Rattle.dds_machine.specs.Matching.{writer_looked_at}
 use Rattle.dds_machine.specs.Watching.{Tests}
 use Rattle.dds_protocol.specs.Dues.{AreTellable, AreSmall, HasSmallChanges, IsPartOf}
 use Rattle.dds_protocol.proofs.DuesGrowth.{is_part_kept}
@@ -29,8 +29,6 @@ effect_count old (writes w entry) =
 effect_count old (tells t) = telling_count old t
 effect_count old (looks_at_matches w) =
     length-with_numbered old.writers w (writer_looked_at (numbered old.writers w no_writer))
-effect_count old (looks_at_misfits w) =
-    length-with_numbered old.writers w (writer_saw_misfits (numbered old.writers w no_writer))
 
 -- a call leaves the writers
 pub call_part : (roster : Roster) (peer : ℕ) (tests : Tests) (old : Part) (call : Call) (reply : Reply) (new : Part)

@@ -10,7 +10,7 @@ use Rattle.dds_machine.specs.declared.event.WorldEvent.TheVariants as world
 use Rattle.dds_machine.specs.declared.reply.Move.{Move}
 use Rattle.dds_machine.specs.declared.reply.Move.TheVariants.{Place, Acknowledged, Heard, Begun as HasBegun, Strange}
 use Rattle.dds_machine.specs.declared.reply.Reply.{Reply}
-use Rattle.dds_machine.specs.declared.reply.Reply.TheVariants.{Done, IncompatibleQos, LivelinessLost, Matched, Reported}
+use Rattle.dds_machine.specs.declared.reply.Reply.TheVariants.{Done, LivelinessLost, Matched, Reported}
 use Rattle.dds_machine.specs.Calls.{effect_of, CallStep}
 use Rattle.dds_machine.specs.Machine.{Machine, AllTests, part_at, grounds_of, Step}
 use Rattle.dds_machine.specs.Moves.{Grounds, IsMove, AreMoves, DeliveryStep}
@@ -195,7 +195,6 @@ none_told old peer (call.AssertLiveliness v) Done h = tt
 none_told old peer (call.SetStrength v strength) Done h = tt
 none_told old peer (call.GetLivelinessLost v) (LivelinessLost status) h = tt
 none_told old peer (call.GetPublicationMatched v) (Matched status) h = tt
-none_told old peer (call.GetOfferedIncompatibleQos v) (IncompatibleQos status) h = tt
 none_told old peer c reply h = tt
 
 -- the rows that a call leaves

@@ -26,8 +26,8 @@ use Rattle.dds_protocol.specs.Opening.{opening_peers, opening_world}
 use Rattle.dds_protocol.proofs.Resumed.{as_moves}
 use Rattle.dds_protocol.specs.Peer.{Peer, PeerStep, EventStep, claimed_by, no_peer, packets_of}
 use Rattle.dds_protocol.specs.World.{peer_at}
-use Rattle.dds_protocol.proofs.CallChanges.{CallChange, unchanged, reads, takes, looks, watches, is_told, sees_matches, sees_misfits, changes_of}
-use Rattle.dds_machine.specs.Matching.{Telling, MatchReader, UnmatchReader, MatchWriter, UnmatchWriter, MeetReader, MeetWriter, MissReader, MissWriter, seen_after_telling}
+use Rattle.dds_protocol.proofs.CallChanges.{CallChange, unchanged, reads, takes, looks, watches, is_told, sees_matches, changes_of}
+use Rattle.dds_machine.specs.Matching.{Telling, MatchReader, UnmatchReader, MatchWriter, UnmatchWriter, MeetReader, MeetWriter, seen_after_telling}
 use Rattle.dds_machine.specs.Watching.{Tests}
 
 -- what the application has handed over
@@ -48,8 +48,6 @@ telling_keeps old (MatchWriter r w) = refl
 telling_keeps old (UnmatchWriter r w) = refl
 telling_keeps old (MeetReader w v) = refl
 telling_keeps old (MeetWriter r w as_writer) = refl
-telling_keeps old (MissReader w v requested) = refl
-telling_keeps old (MissWriter r w as_writer offered) = refl
 
 call_keeps : (old : Part) (new : Dds) → CallChange old new → SameHanded old.dds new
 call_keeps old new (unchanged is) = ap (λ (d : Dds). handed d) is
@@ -58,7 +56,6 @@ call_keeps old new (takes r samples is) = ap (λ (d : Dds). handed d) is
 call_keeps old new (looks r seen is) = ap (λ (d : Dds). handed d) is
 call_keeps old new (is_told t is) = ap (λ (d : Dds). handed d) is ∙ telling_keeps old t
 call_keeps old new (sees_matches r is) = ap (λ (d : Dds). handed d) is
-call_keeps old new (sees_misfits r is) = ap (λ (d : Dds). handed d) is
 call_keeps old new (watches after filters sets is) =
     ap (λ (d : Dds). handed d) is
     ∙ ap (λ (n : ℕ). let h : Handed = record { filters = n; listeners = old.dds.listeners } in h) filters

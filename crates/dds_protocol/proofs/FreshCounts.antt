@@ -28,7 +28,7 @@ use Rattle.dds_machine.specs.Numbered.{HasNumber}
 use Rattle.dds_machine.specs.Part.{Part, ReaderProxy, Writer, own_proxies, own_writer, writer_changes, is_behind, peers_of, heartbeats_used}
 use Rattle.dds_machine.specs.Moves.{Grounds}
 use Rattle.dds_machine.specs.Ticks.{ticked, after_tick, TicksAsked}
-use Rattle.dds_machine.specs.Calls.{Effect, nothing, writes, tells, looks_at_matches, looks_at_misfits, effect, effect_of, with_written}
+use Rattle.dds_machine.specs.Calls.{Effect, nothing, writes, tells, looks_at_matches, effect, effect_of, with_written}
 use Rattle.dds_machine.specs.Watching.{Tests}
 use Rattle.dds_protocol.specs.Claims.{Receiver, receiver_of, after_submessage, every_reader, IsWriter}
 use Rattle.dds_protocol.specs.Receipt.{TakesUp, Receives}
@@ -330,8 +330,6 @@ announced roster peer old (writes writer (Ticked now behind)) P silent told due 
 announced roster peer part nothing P silent told due among = let lt = among.1 in absurd (omega (arith, lt))
 announced roster peer old (tells t) P silent told due among = let lt = among.1 in absurd (omega (arith, lt))
 announced roster peer old (looks_at_matches w) P silent told due among =
-    let lt = among.1 in absurd (omega (arith, lt))
-announced roster peer old (looks_at_misfits w) P silent told due among =
     let lt = among.1 in absurd (omega (arith, lt))
 
 -- packets that are written forms of silent messages

@@ -17,7 +17,7 @@ use Rattle.dds_machine.specs.declared.reply.Move.TheVariants.{Place, Acknowledge
 use Rattle.dds_machine.specs.declared.reply.Reply.{Reply}
 use Rattle.dds_machine.specs.declared.reply.Reply.TheVariants.{Done, Refused, Reported}
 use Rattle.dds_machine.specs.declared.reply.Report.{Report}
-use Rattle.dds_machine.specs.Matching.{Telling, MatchReader, UnmatchReader, MatchWriter, UnmatchWriter, MeetReader, MeetWriter, MissReader, MissWriter, happened_after, happened_once_met, is_known, parted_at, reader_joined, reader_left, reader_looked_at, reader_met, reader_missed, reader_saw_misfits, seen_after_telling}
+use Rattle.dds_machine.specs.Matching.{Telling, MatchReader, UnmatchReader, MatchWriter, UnmatchWriter, MeetReader, MeetWriter, happened_after, happened_once_met, is_known, parted_at, reader_joined, reader_left, reader_looked_at, reader_met, seen_after_telling}
 use Rattle.dds_machine.specs.Moves.{Grounds, AreMoves, as_to, match_of, position_at}
 use Rattle.dds_machine.specs.Noticing.{at_end}
 use Rattle.dds_machine.specs.Numbered.{numbered, with_numbered}
@@ -33,7 +33,7 @@ use Rattle.dds_protocol.specs.DueMessages.{was_asked}
 use Rattle.dds_protocol.specs.Peer.{Peer, PeerStep, EventStep, claimed, claimed_by, packets_of}
 use Rattle.dds_protocol.specs.Receipt.{TakesUp, Receives}
 use Rattle.dds_protocol.proofs.Alike.{AlikeParts, end_alike}
-use Rattle.dds_protocol.proofs.CallChanges.{CallChange, unchanged, reads, takes, looks, watches, is_told, sees_matches, sees_misfits, changes_of}
+use Rattle.dds_protocol.proofs.CallChanges.{CallChange, unchanged, reads, takes, looks, watches, is_told, sees_matches, changes_of}
 use Rattle.dds_machine.proofs.Tables.{numbered-cases, numbered-map-cases}
 
 -- ---- a list, and more of it
@@ -139,10 +139,6 @@ by_telling old (MeetWriter k w as_writer) =
     let r : Reader = own_reader old k in
     all_with old.dds.readers k (reader_met (own_proxies old k) r w as_writer)
     (record { qos = refl; more = more_met (is_known (own_proxies old k) w) as_writer r.happened })
-by_telling old (MissReader w v requested) = all_same old.dds.readers
-by_telling old (MissWriter k w as_writer offered) =
-    let r : Reader = own_reader old k in
-    all_with old.dds.readers k (reader_missed r w offered) (record { qos = refl; more = more_same r.happened })
 
 by_call : (old : Part) (new : Dds) → CallChange old new → AllGoOn old.dds.readers new.readers
 by_call old new (unchanged is) = subst (λ (d : Dds). AllGoOn old.dds.readers d.readers) (sym is) (all_same old.dds.readers)
@@ -165,10 +161,6 @@ by_call old new (sees_matches k is) =
     subst (λ (d : Dds). AllGoOn old.dds.readers d.readers) (sym is)
     (all_with old.dds.readers k (reader_looked_at (own_proxies old k) r)
     (record { qos = refl; more = more_same r.happened }))
-by_call old new (sees_misfits k is) =
-    let r : Reader = own_reader old k in
-    subst (λ (d : Dds). AllGoOn old.dds.readers d.readers) (sym is)
-    (all_with old.dds.readers k (reader_saw_misfits r) (record { qos = refl; more = more_same r.happened }))
 by_call old new (is_told t is) =
     subst (λ (d : Dds). AllGoOn old.dds.readers d.readers) (sym is) (by_telling old t)
 by_call old new (watches after filters sets is) =

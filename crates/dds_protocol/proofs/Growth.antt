@@ -19,11 +19,11 @@ use Rattle.dds_machine.specs.declared.reply.Move.TheVariants.{Place, Acknowledge
 use Rattle.dds_machine.specs.declared.reply.Reply.{Reply}
 use Rattle.dds_machine.specs.declared.reply.Reply.TheVariants.{Done, Refused, Reported}
 use Rattle.dds_machine.specs.Numbered.{numbered, with_numbered}
-use Rattle.dds_machine.specs.Part.{Attachment, Away, Waiting, Misfits, WriterProxy, Writer, Rtps, Part, no_writer, no_part, own_writer, own_proxies, place_of, with_place, with_begun, with_heard, with_acknowledged, with_writer, writer_changes, history_of, is_behind, is_assertion, owed_from, NoLess}
+use Rattle.dds_machine.specs.Part.{Attachment, Away, Waiting, WriterProxy, Writer, Rtps, Part, no_writer, no_part, own_writer, own_proxies, place_of, with_place, with_begun, with_heard, with_acknowledged, with_writer, writer_changes, history_of, is_behind, is_assertion, owed_from, NoLess}
 use Rattle.dds_machine.specs.Moves.{Grounds, IsMove, AreMoves, DeliveryStep}
 use Rattle.dds_machine.specs.Ticks.{ticked, writers_ticked, reader_ticked, TickStep}
-use Rattle.dds_machine.specs.Calls.{Effect, nothing, writes, tells, looks_at_matches, looks_at_misfits, effect, effect_of, with_written, CallStep}
-use Rattle.dds_machine.specs.Matching.{Telling, MatchReader, UnmatchReader, MatchWriter, UnmatchWriter, MeetReader, MeetWriter, MissReader, MissWriter, after_telling, is_known, joined, left, met, missed, with_how, with_match, writer_looked_at, writer_saw_misfits}
+use Rattle.dds_machine.specs.Calls.{Effect, nothing, writes, tells, looks_at_matches, effect, effect_of, with_written, CallStep}
+use Rattle.dds_machine.specs.Matching.{Telling, MatchReader, UnmatchReader, MatchWriter, UnmatchWriter, MeetReader, MeetWriter, after_telling, is_known, joined, left, met, with_how, with_match, writer_looked_at}
 use Rattle.dds_machine.specs.Watching.{Tests}
 use Rattle.dds_protocol.specs.Claims.{Claim, ChangeIs, MayPass, PlaceReached, Asserts}
 use Rattle.dds_machine.specs.Machine.{Machine, part_at, writer_at, place_at}
@@ -200,16 +200,6 @@ place_matched rows w v = by (is_known rows w)
     by true = still rows w Waiting v
     by false = place-append rows (new_row w) v
 
--- a writer that has other misfits
-pub misfits-grow : (w : Writer) (ms : Misfits) → WriterGrows w (record w { misfits = ms })
-misfits-grow w ms = record {
-  policy = refl;
-  values = refl;
-  more = [];
-  written = refl;
-  owed = λ r. omega arith;
-}
-
 pub telling-grows : (old : Rtps) (t : Telling) → Grows old (after_telling old t)
 telling-grows old (MatchReader w r reliable) =
     let before : Writer = numbered old.writers w no_writer in
@@ -239,26 +229,18 @@ telling-grows old (MeetReader w r) =
     let before : Writer = numbered old.writers w no_writer in
     let grows : Grows old (with_writer old w (λ x. met x r.end r.reliable)) =
     set_writer-grows old w (met before r.end r.reliable) (met_of (λ x. WriterGrows before x) before r.end r.reliable
-    (λ ks ms b. record {
+    (λ ks b. record {
       policy = refl;
       values = refl;
       more = [];
       written = refl;
-      owed = λ v. owed_joined (record before { known = ks; misfits = ms }) r.end b v;
+      owed = λ v. owed_joined (record before { known = ks }) r.end b v;
     })) in
     record { writers = grows.writers; places = grows.places }
 telling-grows old (MeetWriter r w as_writer) =
     let rows : List WriterProxy = numbered old.readers r [] in
     let grows = set_reader-grows old r (with_match rows w) (place_matched rows w) in
     record { writers = grows.writers; places = grows.places }
-telling-grows old (MissReader w r requested) =
-    let before : Writer = numbered old.writers w no_writer in
-    let grows : Grows old (with_writer old w (λ x. missed x r.end requested)) =
-    set_writer-grows old w (missed before r.end requested)
-    (misfits-grow before (missed before r.end requested).misfits) in
-    record { writers = grows.writers; places = grows.places }
-telling-grows old (MissWriter r w as_writer offered) =
-    let grows = grows_same old in record { writers = grows.writers; places = grows.places }
 
 -- what a call does: lists grow by one entry, and no acknowledgement changes; or it tells
 
@@ -289,9 +271,6 @@ effect-grows old (tells t) = telling-grows old t
 effect-grows old (looks_at_matches w) =
     set_writer-grows old w (writer_looked_at (numbered old.writers w no_writer))
     (looked_at-grows (numbered old.writers w no_writer))
-effect-grows old (looks_at_misfits w) =
-    let before : Writer = numbered old.writers w no_writer in
-    set_writer-grows old w (writer_saw_misfits before) (misfits-grow before (writer_saw_misfits before).misfits)
 
 -- the effect tells nobody anything
 abbrev pub Untold : Effect → Type 0
@@ -314,8 +293,6 @@ effect-readers old (writes w entry) untold k =
 effect-readers old (tells t) untold k = absurd untold
 effect-readers old (looks_at_matches w) untold k =
     readers_set old.writers w (writer_looked_at (numbered old.writers w no_writer)) refl k
-effect-readers old (looks_at_misfits w) untold k =
-    readers_set old.writers w (writer_saw_misfits (numbered old.writers w no_writer)) refl k
 
 -- it leaves the rows of readers too
 pub effect-rows : (old : Rtps) (e : Effect) → Untold e → (effect old e).readers ≡ old.readers
@@ -323,7 +300,6 @@ effect-rows old nothing untold = refl
 effect-rows old (writes w entry) untold = refl
 effect-rows old (tells t) untold = absurd untold
 effect-rows old (looks_at_matches w) untold = refl
-effect-rows old (looks_at_misfits w) untold = refl
 
 pub CallStep-grows : (tests : Tests) (old : Part) (call : Call) (reply : Reply) (new : Part)
     → CallStep tests old call reply new → Grows old.rtps new.rtps

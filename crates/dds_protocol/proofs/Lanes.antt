@@ -20,14 +20,14 @@ use Rattle.dds_machine.specs.Numbered.{numbered, with_numbered, HasNumber}
 use Rattle.dds_machine.specs.Part.{Attachment, Away, Waiting, Begun, same_endpoint, WriterProxy, Reader, Rtps, Dds, Part, no_reader, own_writer, own_proxies, own_reader, at_reader, at_writer, place_of, with_place, with_begun, with_heard, with_acknowledged, publication_among}
 use Rattle.dds_machine.specs.Moves.{Grounds, as_to, match_of, position_at, AreMoves, Begins as PlaceBegins, Places, Hears, DeliveryStep}
 use Rattle.dds_machine.specs.Ticks.{TickStep, reader_ticked}
-use Rattle.dds_machine.specs.Calls.{Effect, nothing, writes, tells, looks_at_matches, looks_at_misfits, effect, effect_of, Answers, CallStep}
-use Rattle.dds_machine.specs.Matching.{MatchReader, UnmatchReader, MatchWriter, UnmatchWriter, MeetReader, MeetWriter, MissReader, MissWriter, happened_after, happened_once_met, is_known, parted_at, reader_joined, reader_left, reader_looked_at, reader_met, reader_missed, reader_saw_misfits, with_how, with_match}
+use Rattle.dds_machine.specs.Calls.{Effect, nothing, writes, tells, looks_at_matches, effect, effect_of, Answers, CallStep}
+use Rattle.dds_machine.specs.Matching.{MatchReader, UnmatchReader, MatchWriter, UnmatchWriter, MeetReader, MeetWriter, happened_after, happened_once_met, is_known, parted_at, reader_joined, reader_left, reader_looked_at, reader_met, with_how, with_match}
 use Rattle.dds_machine.specs.Watching.{Tests}
 use Rattle.dds_protocol.specs.InOrder.{came_from}
 use Rattle.dds_machine.proofs.Tables.{begun-cases, numbered-cases, numbered-map-cases, numbered-same, length-with_numbered, place-cases, place-hits, place-heard, place-how, place-stays, same_is}
 use Rattle.dds_protocol.proofs.Growth.{TickStep-rows, TickStep-readers}
 use Rattle.dds_protocol.proofs.Policies.{IsReliableAt, still_reliable}
-use Rattle.dds_protocol.proofs.CallChanges.{CallChange, unchanged, reads, takes, looks, watches, is_told, sees_matches, sees_misfits, changes_of}
+use Rattle.dds_protocol.proofs.CallChanges.{CallChange, unchanged, reads, takes, looks, watches, is_told, sees_matches, changes_of}
 use Rattle.dds_protocol.proofs.InOrder.{same_self, passes_none, publication_append, publication_kept, Along, along_as, RestsOn, goes_along, others_go, different}
 
 pub has_with : {X : Type 0} (xs : List X) (i : ℕ) (x : X) (j : ℕ) → HasNumber xs j → HasNumber (with_numbered xs i x) j
@@ -342,9 +342,6 @@ call_came old new r (is_told (MeetReader w v) is) = same_came old.dds new r is
 call_came old new r (is_told (MeetWriter k w as_writer) is) =
     changed_reader old new k (reader_met (own_proxies old k) (own_reader old k) w as_writer) r
     (λ p. meeting_came (is_known (own_proxies old k) w) as_writer (own_reader old k).happened p) is
-call_came old new r (is_told (MissReader w v requested) is) = same_came old.dds new r is
-call_came old new r (is_told (MissWriter k w as_writer offered) is) =
-    changed_reader old new k (reader_missed (own_reader old k) w offered) r (λ p. refl) is
 call_came old new r (is_told (MatchWriter k w) is) =
     changed_reader old new k (reader_joined (own_reader old k) w) r (λ p. refl) is
 call_came old new r (is_told (UnmatchWriter k w) is) =
@@ -352,8 +349,6 @@ call_came old new r (is_told (UnmatchWriter k w) is) =
     (λ p. parting_came (publication_among (own_proxies old k) w) old.dds.moment (own_reader old k).happened p) is
 call_came old new r (sees_matches k is) =
     changed_reader old new k (reader_looked_at (own_proxies old k) (own_reader old k)) r (λ p. refl) is
-call_came old new r (sees_misfits k is) =
-    changed_reader old new k (reader_saw_misfits (own_reader old k)) r (λ p. refl) is
 
 answers_came : (tests : Tests) (old : Part) (c : Call) (reply : Reply) (new : Dds) (r : ℕ)
     → Answers tests old c reply new → SameCame old.dds new r
@@ -439,12 +434,6 @@ effect_lane changes old new w r nothing l h own came =
 effect_lane changes old new w r (writes v entry) l h own came =
     lane_same changes old new w r l (ap (λ (x : Rtps). x.readers) h) own came
 effect_lane changes old new w r (looks_at_matches v) l h own came =
-    lane_same changes old new w r l (ap (λ (x : Rtps). x.readers) h) own came
-effect_lane changes old new w r (looks_at_misfits v) l h own came =
-    lane_same changes old new w r l (ap (λ (x : Rtps). x.readers) h) own came
-effect_lane changes old new w r (tells (MissReader k v requested)) l h own came =
-    lane_same changes old new w r l (ap (λ (x : Rtps). x.readers) h) own came
-effect_lane changes old new w r (tells (MissWriter k v as_writer offered)) l h own came =
     lane_same changes old new w r l (ap (λ (x : Rtps). x.readers) h) own came
 effect_lane changes old new w r (tells (MatchReader k v reliable)) l h own came =
     lane_same changes old new w r l (ap (λ (x : Rtps). x.readers) h) own came

@@ -6,9 +6,8 @@ use Rattle.std.proofs.Math.Nat.{min-le_left, min-le_right, le-min}
 use Rattle.dds_base.specs.declared.change.Change.{Change}
 use Rattle.dds_base.specs.Written.{Written, Registered, Changed, Asserted, LookedAt, StrengthSet, Ticked, changes_of}
 use Rattle.dds_base.specs.declared.endpoint.Endpoint.{Endpoint}
-use Rattle.dds_machine.specs.Fitting.{once_fit}
-use Rattle.dds_machine.specs.Matching.{joined, knows_reader, knows_reliable, left, met, new_row, told_fit}
-use Rattle.dds_machine.specs.Part.{same_endpoint, acknowledged_of, IsAtMost, IsCovered, Misfits, NoLess, ReaderProxy, TopicReader, Writer, row_of, with_acknowledged, owed_from, writer_changes}
+use Rattle.dds_machine.specs.Matching.{joined, knowing, knows_reader, knows_reliable, left, met, new_row}
+use Rattle.dds_machine.specs.Part.{same_endpoint, acknowledged_of, IsAtMost, IsCovered, NoLess, ReaderProxy, TopicReader, Writer, row_of, with_acknowledged, owed_from, writer_changes}
 use Rattle.dds_machine.proofs.Tables.{acknowledged-cases, append_nothing, at_most_on, row-append, row-cases, same_is}
 
 -- changes grow at their end
@@ -119,31 +118,29 @@ owed_joined w v true r =
 
 -- rows without those of one reader
 
--- ---- a writer that may know one reader more, and may have other misfits
+-- ---- a writer that may know one reader more
 
--- what holds whichever readers it knows and its misfits are holds once it was told of one, and that it fits
-pub met_of : (P : Writer → Type 0) (w : Writer) (v : Endpoint) (reliable : Bool)
-    → ((ks : List TopicReader) (ms : Misfits) (b : Bool) → P (joined (record w { known = ks; misfits = ms }) v b))
-    → P (met w v reliable)
-met_of P w v reliable each = by (knows_reader w v)
+-- what holds whichever readers it knows holds of it then
+pub knowing_of : (P : Writer → Type 0) (w : Writer) (v : Endpoint) (reliable : Bool)
+    → ((ks : List TopicReader) → P (record w { known = ks })) → P (knowing w v reliable)
+knowing_of P w v reliable each = by (knows_reader w v)
   where
-    ms : Misfits
-    ms = once_fit w.misfits v
-
-    new : List TopicReader
-    new = w.known ++ record { reader = v; reliable = reliable } ∷ []
-
     by : (b : Bool)
-        → P (joined (if b then told_fit w v else record (told_fit w v) { known = new }) v
-        (knows_reliable (if b then w else record w { known = new }) v))
-    by true = each w.known ms (knows_reliable w v)
-    by false = each new ms (knows_reliable (record w { known = new }) v)
+        → P (if b then w else record w { known = w.known ++ record { reader = v; reliable = reliable } ∷ [] })
+    by true = each w.known
+    by false = each (w.known ++ record { reader = v; reliable = reliable } ∷ [])
+
+-- so it is once it was told of that one
+pub met_of : (P : Writer → Type 0) (w : Writer) (v : Endpoint) (reliable : Bool)
+    → ((ks : List TopicReader) (b : Bool) → P (joined (record w { known = ks }) v b)) → P (met w v reliable)
+met_of P w v reliable each =
+    knowing_of (λ x. P (joined x v (knows_reliable x v))) w v reliable
+    (λ ks. each ks (knows_reliable (record w { known = ks }) v))
 
 -- what it owes begins no earlier
 pub owed_met : (w : Writer) (v : Endpoint) (reliable : Bool) (r : Endpoint) → owed_from w r ≤ owed_from (met w v reliable) r
 owed_met w v reliable r =
-    met_of (λ x. owed_from w r ≤ owed_from x r) w v reliable
-    (λ ks ms b. owed_joined (record w { known = ks; misfits = ms }) v b r)
+    met_of (λ x. owed_from w r ≤ owed_from x r) w v reliable (λ ks b. owed_joined (record w { known = ks }) v b r)
 
 abbrev without : List ReaderProxy → Endpoint → List ReaderProxy
 without rows v = filter (λ (p : ReaderProxy). not (same_endpoint p.reader v)) rows
@@ -255,7 +252,7 @@ pub covered_met : (w : Writer) (v : Endpoint) (reliable : Bool) (r : Endpoint) (
     → NoLess place place → Covered w r place → Covered (met w v reliable) r place
 covered_met w v reliable r place self h =
     met_of (λ x. Covered x r place) w v reliable
-    (λ ks ms b. covered_joined (record w { known = ks; misfits = ms }) v b r place self h)
+    (λ ks b. covered_joined (record w { known = ks }) v b r place self h)
 
 -- where a reader acknowledges no more than it has
 pub covered_acknowledged : (w : Writer) (v : Endpoint) (from to : ℕ) (r : Endpoint) (place : Endpoint → Option ℕ)

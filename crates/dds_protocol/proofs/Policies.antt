@@ -16,13 +16,13 @@ use Rattle.dds_machine.specs.Calls.{CallStep}
 use Rattle.dds_machine.specs.Machine.{Machine, AllTests, part_at, grounds_of, Step}
 use Rattle.dds_machine.specs.Numbered.{numbered, with_numbered}
 use Rattle.dds_machine.specs.Part.{WriterProxy, Reader, Dds, Part, no_reader, no_part, own_proxies, own_reader, at_reader, with_place, with_begun, with_heard}
-use Rattle.dds_machine.specs.Matching.{Telling, MatchReader, UnmatchReader, MatchWriter, UnmatchWriter, MeetReader, MeetWriter, MissReader, MissWriter, parted_at, reader_joined, reader_left, reader_met, reader_missed, reader_looked_at, reader_saw_misfits, seen_after_telling}
+use Rattle.dds_machine.specs.Matching.{Telling, MatchReader, UnmatchReader, MatchWriter, UnmatchWriter, MeetReader, MeetWriter, parted_at, reader_joined, reader_left, reader_met, reader_looked_at, seen_after_telling}
 use Rattle.dds_machine.specs.Moves.{Grounds, IsMove, AreMoves, DeliveryStep}
 use Rattle.dds_machine.specs.Ticks.{TickStep, reader_ticked}
 use Rattle.dds_machine.specs.Watching.{Tests}
 use Rattle.dds_machine.proofs.Tables.{numbered-cases, numbered-map-cases}
 use Rattle.dds_protocol.proofs.Resumed.{as_moves}
-use Rattle.dds_protocol.proofs.CallChanges.{CallChange, unchanged, reads, takes, looks, watches, is_told, sees_matches, sees_misfits, changes_of}
+use Rattle.dds_protocol.proofs.CallChanges.{CallChange, unchanged, reads, takes, looks, watches, is_told, sees_matches, changes_of}
 
 -- the peer's reader of this number is a reliable one
 abbrev pub IsReliableAt : Part → ℕ → Type 0
@@ -89,10 +89,6 @@ telling_qos old (MeetReader w v) r = refl
 telling_qos old (MeetWriter k w as_writer) r =
     changed_qos old (seen_after_telling old (MeetWriter k w as_writer)) k
     (reader_met (own_proxies old k) (own_reader old k) w as_writer) r refl refl
-telling_qos old (MissReader w v requested) r = refl
-telling_qos old (MissWriter k w as_writer offered) r =
-    changed_qos old (seen_after_telling old (MissWriter k w as_writer offered)) k
-    (reader_missed (own_reader old k) w offered) r refl refl
 
 change_qos : (old : Part) (new : Dds) (r : ℕ) → CallChange old new
     → (numbered new.readers r no_reader).qos ≡ (own_reader old r).qos
@@ -108,8 +104,6 @@ change_qos old new r (is_told t is) =
     ap (λ (d : Dds). (numbered d.readers r no_reader).qos) is ∙ telling_qos old t r
 change_qos old new r (sees_matches k is) =
     changed_qos old new k (reader_looked_at (own_proxies old k) (own_reader old k)) r refl is
-change_qos old new r (sees_misfits k is) =
-    changed_qos old new k (reader_saw_misfits (own_reader old k)) r refl is
 
 pub call_qos : (tests : Tests) (old : Part) (c : Call) (reply : Reply) (new : Part) → CallStep tests old c reply new
     → (r : ℕ) → (own_reader new r).qos ≡ (own_reader old r).qos

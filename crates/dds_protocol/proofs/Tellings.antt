@@ -97,4 +97,4 @@ call_stays_due roster peer tests old c reply new t is h = record {
     changes w =
         ap (λ (r : Rtps). writer_changes (numbered r.writers w no_writer))
         (h.rtps ∙ ap (λ e. effect old.rtps e) is)
-        ∙ telling_keeps writer_changes (λ x v b. refl) (λ x v. refl) (λ x ks ms. refl) old.rtps t w
+        ∙ telling_keeps writer_changes (λ x v b. refl) (λ x v. refl) (λ x ks. refl) old.rtps t w

@@ -9,11 +9,11 @@ use Rattle.dds_base.specs.declared.endpoint.Endpoint.{Endpoint}
 use Rattle.dds_machine.specs.declared.call.Call.{Call}
 use Rattle.dds_machine.specs.declared.call.Call.TheVariants as call
 use Rattle.dds_machine.specs.declared.reply.Reply.{Reply}
-use Rattle.dds_machine.specs.declared.reply.Reply.TheVariants.{Done, Incompatible, IncompatibleQos, InstanceHandle, LivelinessLost, Matched}
-use Rattle.dds_machine.specs.Calls.{Answers, CallStep, Effect, nothing, writes, tells, looks_at_matches, looks_at_misfits, effect, effect_of, far_reader_told, reader_told, far_writer_told, unfit_reader_told, unfit_writer_told}
-use Rattle.dds_machine.specs.Matching.{Telling, MatchReader, UnmatchReader, MatchWriter, UnmatchWriter, MeetReader, MeetWriter, MissReader, MissWriter, TellStep, after_telling, is_known, joined, left, met, missed, seen_after_telling, telling_refusal, with_how, with_match}
+use Rattle.dds_machine.specs.declared.reply.Reply.TheVariants.{Done, InstanceHandle, LivelinessLost, Matched}
+use Rattle.dds_machine.specs.Calls.{Answers, CallStep, Effect, nothing, writes, tells, looks_at_matches, effect, effect_of, far_reader_told, reader_told, far_writer_told}
+use Rattle.dds_machine.specs.Matching.{Telling, MatchReader, UnmatchReader, MatchWriter, UnmatchWriter, MeetReader, MeetWriter, TellStep, after_telling, is_known, joined, left, met, seen_after_telling, telling_refusal, with_how, with_match}
 use Rattle.dds_machine.specs.Numbered.{numbered, with_numbered}
-use Rattle.dds_machine.specs.Part.{Attachment, Away, Waiting, Dds, Misfits, Part, Rtps, TopicReader, Writer, WriterProxy, no_writer, place_of, row_of}
+use Rattle.dds_machine.specs.Part.{Attachment, Away, Waiting, Dds, Part, Rtps, TopicReader, Writer, WriterProxy, no_writer, place_of, row_of}
 use Rattle.dds_machine.specs.Watching.{Tests}
 use Rattle.dds_machine.proofs.Tables.{field-stays, length-with_numbered, no_less_same, numbered-cases, row-append}
 use Rattle.dds_protocol.proofs.Owing.{Covered, covered_joined, covered_left, covered_met, met_of}
@@ -64,14 +64,10 @@ answer_says tests old (call.MatchWriter v w) reply new a t e = cc
 answer_says tests old (call.UnmatchWriter v w) Done new a t e = said old (UnmatchWriter v w) new _ (a.0, a.2) refl t e
 answer_says tests old (call.UnmatchWriter v w) reply new a t e = cc
 answer_says tests old (call.MeetReader v far greeted) Done new a t e =
-    said old (far_reader_told v far) new _ (a.1.0, a.1.2) refl t e
-answer_says tests old (call.MeetReader v far greeted) (Incompatible unfit) new a t e =
-    said old (unfit_reader_told v far) new _ (a.2, a.3) refl t e
+    said old (far_reader_told v far) new _ (a.0, a.2) refl t e
 answer_says tests old (call.MeetReader v far greeted) reply new a t e = cc
 answer_says tests old (call.MeetWriter v far) (InstanceHandle handle) new a t e =
-    said old (far_writer_told v far) new _ (a.1.0, a.1.2) refl t e
-answer_says tests old (call.MeetWriter v far) (Incompatible unfit) new a t e =
-    said old (unfit_writer_told v far) new _ (a.2, a.3) refl t e
+    said old (far_writer_told v far) new _ (a.0, a.2) refl t e
 answer_says tests old (call.MeetWriter v far) reply new a t e = cc
 answer_says tests old (call.Register v key) Done new a t e = cc
 answer_says tests old (call.Write v key value) Done new a t e = cc
@@ -81,7 +77,6 @@ answer_says tests old (call.AssertLiveliness v) Done new a t e = cc
 answer_says tests old (call.SetStrength v strength) Done new a t e = cc
 answer_says tests old (call.GetLivelinessLost v) (LivelinessLost status) new a t e = cc
 answer_says tests old (call.GetPublicationMatched v) (Matched status) new a t e = cc
-answer_says tests old (call.GetOfferedIncompatibleQos v) (IncompatibleQos status) new a t e = cc
 answer_says tests old c reply new a t e = cc
 
 -- a call tells nobody anything, or is a telling that is done
@@ -95,7 +90,6 @@ untold_or_told tests old c reply new h = by (effect_of old c reply) refl h.rtps
     by nothing is rtps = inl tt
     by (writes w entry) is rtps = inl tt
     by (looks_at_matches w) is rtps = inl tt
-    by (looks_at_misfits w) is rtps = inl tt
     by (tells t) is rtps =
         let says : SaysTold old t new.dds =
         answer_says tests old c reply new.dds h.answers t (ap (λ (e : Effect). told_by e) is) in
@@ -176,8 +170,6 @@ telling_rows {V} field fresh kept is old (UnmatchWriter k v) r w =
     (numbered-cases old.readers k (with_how rows v Away) r [])
 telling_rows {V} field fresh kept is old (MeetReader k v) r w = inl refl
 telling_rows {V} field fresh kept is old (MeetWriter k v as_writer) r w = match_rows field fresh kept is old k v r w
-telling_rows {V} field fresh kept is old (MissReader k v requested) r w = inl refl
-telling_rows {V} field fresh kept is old (MissWriter k v as_writer offered) r w = inl refl
 
 -- a place that is there was there, or there was none and it is 1
 pub telling_places : (old : Rtps) (t : Telling) (r : ℕ) (w : Endpoint)
@@ -197,9 +189,6 @@ telling_count old (UnmatchWriter r w) = refl
 telling_count old (MeetReader w r) =
     length-with_numbered old.writers w (met (numbered old.writers w no_writer) r.end r.reliable)
 telling_count old (MeetWriter r w as_writer) = refl
-telling_count old (MissReader w r requested) =
-    length-with_numbered old.writers w (missed (numbered old.writers w no_writer) r.end requested)
-telling_count old (MissWriter r w as_writer offered) = refl
 
 -- a value of a writer that no match changes
 telling_put : {X : Type 0} (f : Writer → X) (ws : List Writer) (k : ℕ) (after : Writer)
@@ -211,8 +200,7 @@ telling_put {X} f ws k after same w =
 
 pub telling_keeps : {X : Type 0} (f : Writer → X) → ((w : Writer) (v : Endpoint) (b : Bool) → f (joined w v b) ≡ f w)
     → ((w : Writer) (v : Endpoint) → f (left w v) ≡ f w)
-    → ((w : Writer) (ks : List TopicReader) (ms : Misfits) → f (record w { known = ks; misfits = ms }) ≡ f w)
-    → (old : Rtps) (t : Telling) (w : ℕ)
+    → ((w : Writer) (ks : List TopicReader) → f (record w { known = ks }) ≡ f w) → (old : Rtps) (t : Telling) (w : ℕ)
     → f (numbered (after_telling old t).writers w no_writer) ≡ f (numbered old.writers w no_writer)
 telling_keeps {X} f joining leaving knows old (MatchReader k r reliable) w =
     let before : Writer = numbered old.writers k no_writer in
@@ -226,13 +214,8 @@ telling_keeps {X} f joining leaving knows old (MeetReader k r) w =
     let before : Writer = numbered old.writers k no_writer in
     telling_put f old.writers k (met before r.end r.reliable)
     (met_of (λ x. f x ≡ f before) before r.end r.reliable
-    (λ ks ms b. joining (record before { known = ks; misfits = ms }) r.end b ∙ knows before ks ms)) w
+    (λ ks b. joining (record before { known = ks }) r.end b ∙ knows before ks)) w
 telling_keeps {X} f joining leaving knows old (MeetWriter r v as_writer) w = refl
-telling_keeps {X} f joining leaving knows old (MissReader k r requested) w =
-    let before : Writer = numbered old.writers k no_writer in
-    telling_put f old.writers k (missed before r.end requested)
-    (knows before before.known (missed before r.end requested).misfits) w
-telling_keeps {X} f joining leaving knows old (MissWriter r v as_writer offered) w = refl
 
 -- the number of readers with rows
 pub telling_readers : (old : Rtps) (t : Telling) → length (after_telling old t).readers ≡ length old.readers
@@ -245,8 +228,6 @@ telling_readers old (UnmatchWriter r w) =
 telling_readers old (MeetReader w r) = refl
 telling_readers old (MeetWriter r w as_writer) =
     length-with_numbered old.readers r (with_match (numbered old.readers r []) w)
-telling_readers old (MissReader w r requested) = refl
-telling_readers old (MissWriter r w as_writer offered) = refl
 
 -- ---- what is acknowledged
 
@@ -280,6 +261,3 @@ telling_covered old (MeetReader w v) r place k h =
     set_covered old.writers w (met before v.end v.reliable) r place
     (λ c. covered_met before v.end v.reliable r (place w) (no_less_same (place w)) c) k h
 telling_covered old (MeetWriter n w as_writer) r place k h = h
-telling_covered old (MissReader w v requested) r place k h =
-    set_covered old.writers w (missed (numbered old.writers w no_writer) v.end requested) r place (λ c. c) k h
-telling_covered old (MissWriter n w as_writer offered) r place k h = h

@@ -19,8 +19,7 @@ use Rattle.dds_notices.specs.Listeners.{nobody}
 use Rattle.dds_machine.specs.declared.reply.Move.{Move}
 use Rattle.dds_machine.specs.declared.reply.Move.TheVariants.{Place, Begun as HasBegun}
 use Rattle.dds_machine.specs.declared.reply.Reply.TheVariants.{Reported}
-use Rattle.dds_base.specs.Offered.{offered, requested}
-use Rattle.dds_machine.specs.Part.{Begun, Waiting, opened_with, Part, Writer, no_misfits, no_reader, nothing_seen, owed_from, Names}
+use Rattle.dds_machine.specs.Part.{Begun, Waiting, opened_with, Part, Writer, no_reader, nothing_seen, owed_from, Names}
 use Rattle.dds_base.specs.declared.qos.ReliabilityQos.TheVariants.{BestEffort}
 use Rattle.dds_machine.specs.Moves.{Grounds, as_to, AreMoves, match_of, Begins, Places, DeliveryStep}
 use Rattle.dds_machine.specs.Machine.{Machine, grounds_of}
@@ -49,7 +48,6 @@ writing policy max_samples happened acknowledged =
       max_samples = max_samples;
       lease = None;
       strength = None;
-      offered = offered (writer policy);
       autodispose = true;
       max_value = usual_value;
       known = record { reader = r1; reliable = true } ∷ [];
@@ -57,7 +55,6 @@ writing policy max_samples happened acknowledged =
       matched = r1 ∷ [];
       readers = record { reader = r1; first = 1; acknowledged = acknowledged } ∷ [];
       matches = opened_with (r1 ∷ []);
-      misfits = no_misfits;
     }
 
 abbrev pub part_1 : Writer → Part
@@ -77,11 +74,9 @@ part_2 place heard happened = record {
         readers = record {
           qos = reader_qos (pair KeepAll).peers
               (reader r1_id 0);
-          requested = requested (reader r1_id 0);
           happened = happened;
           seen = nothing_seen;
           matches = opened_with (w1 ∷ []);
-          misfits = no_misfits;
         }
             ∷ [];
         watch = nothing_watched 0 1;

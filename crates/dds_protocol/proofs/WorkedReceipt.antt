@@ -17,7 +17,7 @@ use Rattle.dds_notices.specs.Listeners.{nobody}
 use Rattle.dds_base.specs.declared.endpoint.Endpoint.{Endpoint}
 use Rattle.dds_machine.specs.declared.reply.Move.{Move}
 use Rattle.dds_machine.specs.declared.reply.Move.TheVariants.{Place, Acknowledged}
-use Rattle.dds_machine.specs.Part.{opened_with, Part, Writer, no_misfits, no_policies, own_reader, nothing_seen}
+use Rattle.dds_machine.specs.Part.{opened_with, Part, Writer, own_reader, nothing_seen}
 use Rattle.dds_base.specs.Places.{coming}
 use Rattle.dds_machine.specs.Moves.{Grounds, match_of, position_at, AreMoves}
 use Rattle.dds_protocol.specs.Claims.{Receiver, receiver_of, after_submessage, IsWriter, IsReader, IsToReader}
@@ -292,11 +292,9 @@ limited happened = record (part_2 2 None []) {
         readers = record {
           qos = record (own_reader begun 1).qos
               { max_samples = Some 1 };
-          requested = no_policies;
           happened = happened;
           seen = nothing_seen;
           matches = opened_with (w1 ∷ []);
-          misfits = no_misfits;
         }
             ∷ [];
         watch = nothing_watched 0 1;

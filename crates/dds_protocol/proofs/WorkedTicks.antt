@@ -18,7 +18,7 @@ use Rattle.dds_machine.specs.declared.reply.Reply.TheVariants.{Done}
 use Rattle.dds_machine.specs.Ticks.{RefusesTick, after_tick, is_past_counting, tick_refusal, ticked}
 use Rattle.dds_machine.specs.Calls.{with_written}
 use Rattle.dds_protocol.specs.Claims.{every_reader, participant_entity}
-use Rattle.dds_machine.specs.Part.{opened_with, Part, Writer, heartbeats_used, is_assertion, no_misfits, no_part, no_policies, no_writer, nothing_seen, own_reader, no_names}
+use Rattle.dds_machine.specs.Part.{opened_with, Part, Writer, heartbeats_used, is_assertion, no_part, no_writer, nothing_seen, own_reader, no_names}
 use Rattle.dds_protocol.specs.Contact.{no_contact}
 use Rattle.dds_protocol.specs.DueMessages.{Due, assertions_due, heartbeats_of, reader_entity}
 use Rattle.dds_protocol.specs.Peer.{Peer, known_after, no_peer}
@@ -52,11 +52,9 @@ part = record no_part {
             writers = leased
                 ∷ leased ∷ [];
           };
-      requested = no_policies;
       happened = Heard 2 5 ∷ Heard 1 2 ∷ [];
       seen = nothing_seen;
       matches = opened_with (w1 ∷ record { peer = 1; number = 2 } ∷ []);
-      misfits = no_misfits;
     } ∷ [];
   };
 }

@@ -177,7 +177,7 @@ fn other_call(operation: &str, words: &[&str]) -> Option<Call> {
         "strength" => set_strength(words),
         "key" => key_value(words),
         "lookup" => lookup(words),
-        "match" | "meet" | "part" | "matched" | "unfit" => matching_call(operation, words),
+        "match" | "meet" | "part" | "matched" => matching_call(operation, words),
         _ => access(operation, words),
     }
 }

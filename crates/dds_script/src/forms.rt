@@ -174,9 +174,8 @@ impl Operand {
             Operand::GuardValue => "0 or 1",
             Operand::GuidPrefix => "24 hexadecimal digits",
             Operand::EntityId => "8 hexadecimal digits",
-            Operand::OfMetReader => "besteffort, exclusive or greeted, or lease= and a time",
-            Operand::OfMetWriter =>
-                "exclusive, strength= and a number in 32 bits, or lease= and a time",
+            Operand::OfMetReader => "besteffort or greeted",
+            Operand::OfMetWriter => "strength= and a number in 32 bits, or lease= and a time",
             _ => self.meaning_of_number(),
         }
     }
@@ -236,8 +235,8 @@ impl Rest {
         match self {
             Rest::Nothing => "",
             Rest::Limits => " [MAX [S V I]]",
-            Rest::OfMetReader => " [besteffort] [exclusive] [lease=UNITS] [greeted]",
-            Rest::OfMetWriter => " [exclusive] [strength=N] [lease=UNITS]",
+            Rest::OfMetReader => " [besteffort] [greeted]",
+            Rest::OfMetWriter => " [strength=N] [lease=UNITS]",
         }
     }
 }
@@ -342,7 +341,7 @@ fn end_call_form(name: &str) -> Option<Form> {
             Operand::GuidPrefix,
             Operand::EntityId,
         ])),
-        "matched" | "unfit" => Some(Form::of(&[Operand::End])),
+        "matched" => Some(Form::of(&[Operand::End])),
         "lost" | "changed" | "read_next_sample" | "take_next_sample" => {
             Some(Form::of(&[Operand::Reader]))
         }

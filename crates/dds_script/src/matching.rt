@@ -78,19 +78,6 @@ fn look_of(words: &[&str]) -> Option<Call> {
     }
 }
 
-/// A look at how often a writer or a reader was told of one that does not fit.
-fn unfit_look_of(words: &[&str]) -> Option<Call> {
-    let [end] = words else {
-        return None;
-    };
-    match writer_number(end) {
-        Some(writer) => Some(Call::GetOfferedIncompatibleQos { writer }),
-        None => Some(Call::GetRequestedIncompatibleQos {
-            reader: reader_number(end)?,
-        }),
-    }
-}
-
 /// The call that a word about matches asks for, with what follows it.
 pub fn matching_call(operation: &str, words: &[&str]) -> Option<Call> {
     match operation {
@@ -98,7 +85,6 @@ pub fn matching_call(operation: &str, words: &[&str]) -> Option<Call> {
         "meet" => meeting_of(words),
         "part" => parting_of(words),
         "matched" => look_of(words),
-        "unfit" => unfit_look_of(words),
         _ => None,
     }
 }

@@ -2,7 +2,7 @@
 
 use crate::number::{decimal_i32, entity_id, guid_prefix, units};
 use crate::operand::{reader_end, reader_number, writer_end, writer_number};
-use dds_base::{EntityId, Guid, OwnershipQos, ReaderConfig, ReliabilityQos, WriterConfig};
+use dds_base::{EntityId, Guid, ReaderConfig, ReliabilityQos, WriterConfig};
 use dds_machine::{Call, FarReader, FarWriter};
 
 /// A reader that a writer meets: its policies, and how it is told.
@@ -25,12 +25,8 @@ impl MetReader {
     fn take(&mut self, word: &str) -> Option<()> {
         match word {
             "besteffort" => self.config.reliability = ReliabilityQos::BestEffort,
-            "exclusive" => self.config.ownership = OwnershipQos::Exclusive,
             "greeted" => self.greeted = true,
-            _ => match word.split_once('=')? {
-                ("lease", number) => self.config.lease = Some(units(number)?),
-                _ => return None,
-            },
+            _ => return None,
         }
         Some(())
     }
@@ -52,10 +48,6 @@ impl MetWriter {
 
     /// Takes up what a word says of it, if it says something.
     fn take(&mut self, word: &str) -> Option<()> {
-        if word == "exclusive" {
-            self.config.ownership = OwnershipQos::Exclusive;
-            return Some(());
-        }
         let (name, number) = word.split_once('=')?;
         match name {
             "strength" => self.config.strength = decimal_i32(number)?,

@@ -14,9 +14,6 @@ impl TranscriptLine {
             Status::LivelinessChanged(values) => self.push_liveliness_changed(values),
             Status::PublicationMatched(values) => self.push_matched(Side::Writer, values),
             Status::SubscriptionMatched(values) => self.push_matched(Side::Reader, values),
-            Status::OfferedIncompatibleQos(values) | Status::RequestedIncompatibleQos(values) => {
-                self.push_unfit(values);
-            }
         }
     }
 

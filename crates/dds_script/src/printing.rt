@@ -8,13 +8,13 @@ ghost use Rattle.dds_script.specs.Lines.{Adds, IsNewLine, IsWhole, octets_text};
 use crate::fault::Fault;
 use crate::matching::Side;
 use bitflags::Flags;
-use dds_base::{Code, Endpoint, Entity, Handle, Key, UnfitPolicies};
+use dds_base::{Code, Endpoint, Entity, Handle, Key};
 use dds_conditions::Cond;
 use dds_machine::{
     LivelinessChangedStatus, LivelinessLostStatus, MatchedStatus, Move, PassedRun, Reply, Report,
     SampleLostStatus,
 };
-use dds_notices::{IncompatibleQosStatus, StatusMask};
+use dds_notices::StatusMask;
 use std::alloc::{AllocError, Global};
 use std::fmt::Display;
 use std::io::Write;
@@ -140,43 +140,6 @@ impl TranscriptLine {
                 self.push(format_args!("{peer}.w{number}"));
             }
         }
-    }
-
-    /// The ids of the policies that do not fit, ascending.
-    fn push_incompatible(&mut self, unfit: UnfitPolicies) {
-        self.push("incompatible");
-        for id in unfit.ids().as_slice() {
-            self.push(format_args!(" {id}"));
-        }
-    }
-
-    /// How often the policy of this id did not fit, if it ever did not.
-    fn push_policy_count(&mut self, id: u32, count: u64) {
-        if count > 0 {
-            self.push(format_args!(" [{id} {count}]"));
-        }
-    }
-
-    /// How often a writer or a reader was told of one that does not fit: in all and how much oftener, the id of the policy
-    /// of the last, 0 before the first, and of each policy how often it did not fit.
-    pub(crate) fn push_unfit(&mut self, status: IncompatibleQosStatus) {
-        let IncompatibleQosStatus {
-            total_count,
-            total_count_change,
-            last_policy_id,
-            policies,
-        } = status;
-        self.push_total("unfit", total_count, total_count_change);
-        let last = last_policy_id.unwrap_or(0);
-        self.push(format_args!(" {last}"));
-        self.push_policy_count(2, policies.durability);
-        self.push_policy_count(3, policies.presentation);
-        self.push_policy_count(4, policies.deadline);
-        self.push_policy_count(5, policies.latency_budget);
-        self.push_policy_count(6, policies.ownership);
-        self.push_policy_count(8, policies.liveliness);
-        self.push_policy_count(11, policies.reliability);
-        self.push_policy_count(12, policies.destination_order);
     }
 
     /// The participant, a writer or a reader, as `p`, `w2` and `r2`.
@@ -311,8 +274,6 @@ impl TranscriptLine {
             Reply::LivelinessChanged(status) => self.push_liveliness_changed(*status),
             Reply::LivelinessLost(status) => self.push_liveliness_lost(*status),
             Reply::Matched(status) => self.push_matched(side, *status),
-            Reply::Incompatible(unfit) => self.push_incompatible(*unfit),
-            Reply::IncompatibleQos(status) => self.push_unfit(*status),
             Reply::Created(number) => self.push_created(*number),
             Reply::TriggerValue(value) => self.push(*value),
             Reply::Conditions(all) => self.push_conditions("conditions", all.as_slice()),

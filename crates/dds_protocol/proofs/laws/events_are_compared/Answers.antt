@@ -76,8 +76,6 @@ calls = of_variants enum_of_calls _
     ⨾ last Decides-eqb  -- GetSubscriptionMatched
     ⨾ more Decides-eqb (more far_readers (last booleans_Decides))  -- MeetReader
     ⨾ more Decides-eqb (last far_writers)  -- MeetWriter
-    ⨾ last Decides-eqb  -- GetOfferedIncompatibleQos
-    ⨾ last Decides-eqb  -- GetRequestedIncompatibleQos
     ⨾ tt)
 
 events : (a b : Event) → Decides (of_events.ghosts.eq a b) (a ≡ b)

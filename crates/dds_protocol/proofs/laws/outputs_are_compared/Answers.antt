@@ -28,12 +28,6 @@ use Rattle.dds_base.specs.declared.endpoint.Endpoint.{Endpoint}
 use Rattle.dds_base.specs.declared.status.MatchedStatus.{MatchedStatus}
 use Rattle.dds_base.specs.contracts.endpoint.EndpointPartialEq.TheImpl as of_endpoints
 use Rattle.dds_base.specs.contracts.status.MatchedStatusPartialEq.TheImpl as of_matched
-use Rattle.dds_base.specs.declared.unfit.UnfitPolicies.{UnfitPolicies}
-use Rattle.dds_base.specs.contracts.unfit.UnfitPoliciesPartialEq.TheImpl as of_unfit
-use Rattle.dds_notices.specs.declared.incompatible.IncompatibleQosStatus.{IncompatibleQosStatus}
-use Rattle.dds_notices.specs.declared.incompatible.PolicyCounts.{PolicyCounts}
-use Rattle.dds_notices.specs.contracts.incompatible.IncompatibleQosStatusPartialEq.TheImpl as of_incompatible
-use Rattle.dds_notices.specs.contracts.incompatible.PolicyCountsPartialEq.TheImpl as of_counts
 use Rattle.dds_protocol.specs.declared.event.Output.{Output}
 use Rattle.dds_protocol.specs.declared.event.Packet.{Packet}
 use Rattle.dds_machine.specs.declared.reply.Move.{Move}
@@ -172,48 +166,6 @@ matched_statuses a b =
     })
     (λ e. (cc, (cc, (cc, (cc, cc))))) all
 
-unfit : (a b : UnfitPolicies) → Decides (of_unfit.ghosts.eq a b) (a ≡ b)
-unfit a b = search rules
-
-counts : (a b : PolicyCounts) → Decides (of_counts.ghosts.eq a b) (a ≡ b)
-counts a b =
-    let all =
-    Decides-and _ _ (Decides-eqb a.durability b.durability)
-    (Decides-and _ _ (Decides-eqb a.presentation b.presentation)
-    (Decides-and _ _ (Decides-eqb a.deadline b.deadline)
-    (Decides-and _ _ (Decides-eqb a.latency_budget b.latency_budget)
-    (Decides-and _ _ (Decides-eqb a.ownership b.ownership)
-    (Decides-and _ _ (Decides-eqb a.liveliness b.liveliness)
-    (Decides-and _ _ (Decides-eqb a.reliability b.reliability)
-    (Decides-eqb a.destination_order b.destination_order))))))) in
-    Decides-like (of_counts.ghosts.eq a b)
-    (λ h i. record {
-      durability = h.0 i;
-      presentation = h.1.0 i;
-      deadline = h.1.1.0 i;
-      latency_budget = h.1.1.1.0 i;
-      ownership = h.1.1.1.1.0 i;
-      liveliness = h.1.1.1.1.1.0 i;
-      reliability = h.1.1.1.1.1.1.0 i;
-      destination_order = h.1.1.1.1.1.1.1 i;
-    })
-    (λ e. (cc, (cc, (cc, (cc, (cc, (cc, (cc, cc)))))))) all
-
-incompatible_statuses : (a b : IncompatibleQosStatus) → Decides (of_incompatible.ghosts.eq a b) (a ≡ b)
-incompatible_statuses a b =
-    let all =
-    Decides-and _ _ (Decides-eqb a.total_count b.total_count)
-    (Decides-and _ _ (Decides-eqb a.total_count_change b.total_count_change)
-    (Decides-and _ _ (options a.last_policy_id b.last_policy_id) (counts a.policies b.policies))) in
-    Decides-like (of_incompatible.ghosts.eq a b)
-    (λ h i. record {
-      total_count = h.0 i;
-      total_count_change = h.1.0 i;
-      last_policy_id = h.1.1.0 i;
-      policies = h.1.1.1 i;
-    })
-    (λ e. (cc, (cc, (cc, cc)))) all
-
 codes : (a b : Code) → Decides (of_codes.ghosts.eq a b) (a ≡ b)
 codes a b = search rules
 
@@ -227,8 +179,6 @@ replies = of_variants enum_of_replies _
     ⨾ last liveliness_statuses  -- LivelinessChanged
     ⨾ last liveliness_lost_statuses  -- LivelinessLost
     ⨾ last matched_statuses  -- Matched
-    ⨾ last unfit  -- Incompatible
-    ⨾ last incompatible_statuses  -- IncompatibleQos
     ⨾ last Decides-eqb  -- Created
     ⨾ last booleans_Decides  -- TriggerValue
     ⨾ last (lists conds)  -- Conditions

@@ -36,7 +36,7 @@ returns-clause-takes c = λ k name at at_name.
     c.take_acknack-acknowledged.new.self name c.args.effects.now.moves.items c.args.effects.now.sent _
     c.match-heard.effects.moves.items c.match-heard.effects.sent c.self.inside.prefix
     c.take_acknack-acknowledged.result c.is_beyond-is_strange.result c.reader-reader.result is_k at_name c.take_acknack-acknowledged.ensures.same
-    c.take_acknack-acknowledged.ensures.matches c.take_acknack-acknowledged.ensures.misfits
+    c.take_acknack-acknowledged.ensures.matches
     (ap (λ (q : PeerKept). q.prefix) c.self.view_is)
     (subst (λ (x : Announced). TakesAckNack c.index_mut-writer.result.now c.self.inside.prefix c.args.row c.args.body.now
     c.args.effects.now.sent c.take_acknack-acknowledged.new.self c.take_acknack-acknowledged.result x) (sym same_sent) c.take_acknack-acknowledged.ensures.takes)

@@ -152,14 +152,6 @@ returns-in-MeetReader-clause-step g c = called_to_meet _ _ _ _ _ _ c.in-MeetRead
 pub returns-in-MeetWriter-clause-step : goal.returns-in-MeetWriter-clause-step
 returns-in-MeetWriter-clause-step g c = called_to_meet _ _ _ _ _ _ c.in-MeetWriter.is c.meet_writer.ensures.step refl
 
-pub returns-in-GetOfferedIncompatibleQos-clause-step : goal.returns-in-GetOfferedIncompatibleQos-clause-step
-returns-in-GetOfferedIncompatibleQos-clause-step g c =
-    plainly_called _ _ _ _ _ _ c.in-GetOfferedIncompatibleQos.is c.get_offered_incompatible_qos.ensures.step refl tt
-
-pub returns-in-GetRequestedIncompatibleQos-clause-step : goal.returns-in-GetRequestedIncompatibleQos-clause-step
-returns-in-GetRequestedIncompatibleQos-clause-step g c =
-    plainly_called _ _ _ _ _ _ c.in-GetRequestedIncompatibleQos.is c.get_requested_incompatible_qos.ensures.step refl tt
-
 pub returns-in-Register-clause-twin : goal.returns-in-Register-clause-twin
 returns-in-Register-clause-twin g c = plain_twin c.args.twin.now c.register.result.reply c.register.ensures.plain
 
@@ -258,12 +250,3 @@ returns-in-MeetReader-clause-twin g c = plain_twin c.args.twin.now c.meet_reader
 
 pub returns-in-MeetWriter-clause-twin : goal.returns-in-MeetWriter-clause-twin
 returns-in-MeetWriter-clause-twin g c = plain_twin c.args.twin.now c.meet_writer.result.reply c.meet_writer.ensures.plain
-
-pub returns-in-GetOfferedIncompatibleQos-clause-twin : goal.returns-in-GetOfferedIncompatibleQos-clause-twin
-returns-in-GetOfferedIncompatibleQos-clause-twin g c =
-    plain_twin c.args.twin.now c.get_offered_incompatible_qos.result.reply c.get_offered_incompatible_qos.ensures.plain
-
-pub returns-in-GetRequestedIncompatibleQos-clause-twin : goal.returns-in-GetRequestedIncompatibleQos-clause-twin
-returns-in-GetRequestedIncompatibleQos-clause-twin g c =
-    plain_twin c.args.twin.now c.get_requested_incompatible_qos.result.reply
-    c.get_requested_incompatible_qos.ensures.plain

@@ -7,7 +7,7 @@ use Rattle.dds_protocol.specs.declared.event.Output.{Output}
 use Rattle.dds_core.specs.Kept.{PeerKept}
 use Rattle.dds_core.proofs.AnyTests.{nobody_met_then}
 use Rattle.dds_core.proofs.CallSteps.{still_stands}
-use Rattle.dds_core.proofs.MetReaders.{FollowsMeeting, caused, fits_again, has_no_cause, meeting_as, meets_at, meets_not, met_at, misses_then, no_writer_meets, nobody_met_missed, not_called_so, not_named, refused_at, wants_memory}
+use Rattle.dds_core.proofs.MetReaders.{FollowsMeeting, caused, meeting_as, meets_at, meets_not, met_at, no_writer_meets, not_called_so, not_named, refused_at, wants_memory}
 use Rattle.dds_core.proofs.peer.Peer.meet_reader.Goals as goal
 
 -- there is no such writer
@@ -79,30 +79,6 @@ returns-in-Err-clause-step c = record {
   meets = nobody_met_then _ _ _ _ (ap (λ (o : Output). o.reply) c.refused-in-Err.ensures);
 }
 
--- it does not fit
-pub returns-then-not-is_empty-clause-step : goal.returns-then-not-is_empty-clause-step
-returns-then-not-is_empty-clause-step c = record {
-  step = λ roster peer given.
-      let within : c.in-Some.index < length c.self.inside.writers.items = search rules in
-      misses_then _ c.add_reader.new.self c.args.writer c.in-Some.index c.index-2.result.now c.args.far
-      c.is_reliable-is_reliable.result c.args.greeted c.in-Ok.is_new c.unfit-unfit.result roster peer
-      c.miss_reader.result c.miss_reader.new.self (record {
-        stands = still_stands c.self.view_is given;
-        at = slice_get_read _ _ _ _ refl within c.index-2.ensures;
-        within = within;
-        read = c.is_reliable-is_reliable.ensures.reliable;
-        called = sym c.may_call_reader.ensures ∙ c.if-not-may_call_reader.false;
-      }) c.in-Some.ensures.index.0
-      (has_no_cause c.self.inside.writers.items c.in-Some.index c.args.far
-      (slice_get_read _ _ _ _ refl within c.index.ensures) (slice_get_read _ _ _ _ refl within c.index-2.ensures)
-      c.meeting_cause.ensures.cause c.in_default-meeting_cause.is)
-      c.unfit-unfit.ensures (sym (c.is_empty.ensures tt) ∙ c.if-not-is_empty.true) c.in-Ok.ensures.ok
-      c.in-Ok.ensures.before c.miss_reader.ensures.missed;
-  meets =
-      nobody_met_missed _ _ _ c.args.writer c.in-Some.index c.args.far c.args.greeted c.in-Ok.is_new
-      c.unfit-unfit.result c.miss_reader.result c.miss_reader.ensures.missed;
-}
-
 pub returns-in-Ok-meet-clause-step : goal.returns-in-Ok-meet-clause-step
 returns-in-Ok-meet-clause-step c = record {
   step = λ roster peer given.
@@ -115,11 +91,7 @@ returns-in-Ok-meet-clause-step c = record {
         within = within;
         read = c.is_reliable-is_reliable.ensures.reliable;
         called = sym c.may_call_reader.ensures ∙ c.if-not-may_call_reader.false;
-      }) c.in-Some.ensures.index.0 c.in-Ok-meet.ensures.accepted
-      (fits_again c.self.inside.writers.items c.in-Some.index c.args.far
-      (slice_get_read _ _ _ _ refl within c.index-2.ensures) (slice_get_read _ _ _ _ refl within c.index_mut.ensures.value)
-      c.unfit-unfit.ensures (sym (c.is_empty.ensures tt) ∙ c.if-not-is_empty.false))
-      c.in-Ok-meet.ensures.ok c.in-Ok.ensures.ok);
+      }) c.in-Some.ensures.index.0 c.in-Ok-meet.ensures.accepted c.in-Ok-meet.ensures.ok c.in-Ok.ensures.ok);
   meets =
       let within : c.in-Some.index < length c.self.inside.writers.items = search rules in
       met_at _ _ c.args.writer c.in-Some.index c.index_mut.result.now c.args.far c.is_reliable-is_reliable.result

@@ -11,7 +11,7 @@ use Rattle.dds_core.specs.Kept.{PeerKept}
 use Rattle.dds_core.proofs.AnyTests.{nobody_met_then}
 use Rattle.dds_core.proofs.CallSteps.{still_stands}
 use Rattle.dds_core.proofs.MetReaders.{FollowsMeeting, meeting_as}
-use Rattle.dds_core.proofs.MetWriters.{caused, fits_again, has_no_cause, meets_at, meets_not, met_at, misses_then, no_reader_meets, nobody_met_missed, not_named, not_to_be_met, refused_at, wants_memory, writer_name}
+use Rattle.dds_core.proofs.MetWriters.{caused, meets_at, meets_not, met_at, no_reader_meets, not_named, not_to_be_met, refused_at, wants_memory, writer_name}
 use Rattle.dds_core.proofs.peer.Peer.meet_writer.Goals as goal
 
 -- the lease that was looked at is that of the writer
@@ -97,29 +97,6 @@ returns-in-Err-clause-step c = record {
   meets = nobody_met_then _ _ _ _ (ap (λ (o : Output). o.reply) c.refused-in-Err.ensures);
 }
 
--- it does not fit
-pub returns-then-not-is_empty-clause-step : goal.returns-then-not-is_empty-clause-step
-returns-then-not-is_empty-clause-step c = record {
-  step = λ roster peer given.
-      let within : c.in-Some.index < length c.self.inside.readers.items = search rules in
-      misses_then _ c.add_writer.new.self c.args.reader c.in-Some.index c.index-2.result.now c.args.far
-      c.in-Ok.is_new c.unfit-unfit.result roster peer c.miss_writer.result c.miss_writer.new.self (record {
-        stands = still_stands c.self.view_is given;
-        at = slice_get_read _ _ _ _ refl within c.index-2.ensures;
-        within = within;
-        called = sym c.may_call_writer.ensures ∙ c.if-not-may_call_writer.false;
-        lease = bad_lease c.if-is_bad_lease.false c.is_bad_lease.ensures c.as_matched-as_writer.ensures;
-      }) c.in-Some.ensures.index.0
-      (has_no_cause c.self.inside.readers.items c.in-Some.index c.args.far
-      (slice_get_read _ _ _ _ refl within c.index.ensures) (slice_get_read _ _ _ _ refl within c.index-2.ensures)
-      c.meeting_cause.ensures.cause c.in_default-meeting_cause.is)
-      c.unfit-unfit.ensures (sym (c.is_empty.ensures tt) ∙ c.if-not-is_empty.true) c.in-Ok.ensures.ok
-      c.in-Ok.ensures.before c.miss_writer.ensures.missed;
-  meets =
-      nobody_met_missed _ _ _ c.args.reader c.in-Some.index c.args.far c.in-Ok.is_new c.unfit-unfit.result
-      c.miss_writer.result c.miss_writer.ensures.missed;
-}
-
 pub returns-in-Ok-meet-clause-step : goal.returns-in-Ok-meet-clause-step
 returns-in-Ok-meet-clause-step c = record {
   step = λ roster peer given.
@@ -133,9 +110,6 @@ returns-in-Ok-meet-clause-step c = record {
         called = sym c.may_call_writer.ensures ∙ c.if-not-may_call_writer.false;
         lease = bad_lease c.if-is_bad_lease.false c.is_bad_lease.ensures c.as_matched-as_writer.ensures;
       }) c.in-Some.ensures.index.0 c.in-Ok-meet.ensures.accepted
-      (fits_again c.self.inside.readers.items c.in-Some.index c.args.far
-      (slice_get_read _ _ _ _ refl within c.index-2.ensures) (slice_get_read _ _ _ _ refl within c.index_mut.ensures.value)
-      c.unfit-unfit.ensures (sym (c.is_empty.ensures tt) ∙ c.if-not-is_empty.false))
       (subst (λ (m : MatchedWriter). MeetsWriter c.index_mut.result.now (writer_name c.args.far) m c.in-Ok-meet.row
       c.meet.new.self) c.as_matched-as_writer.ensures c.in-Ok-meet.ensures.ok) c.new-handle.ensures.number
       c.in-Ok.ensures.ok);

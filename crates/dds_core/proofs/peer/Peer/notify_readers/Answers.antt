@@ -23,7 +23,7 @@ pub loop-index-preserved : goal.loop-index-preserved
 loop-index-preserved g c = record {
   told = λ before marks.
       tells_marked g.L.Listener.notices g.L.Listener.capacity g.L.Listener.becomes c.args.marks.now.readers
-      (record { happened = 0; here = 0; misfits = 0 })
+      (record { happened = 0; here = 0 })
       (λ mark i. IsMarkOf mark (own_proxies before i) (own_reader before i)) (reader_told before)
       c.args.self.now c.args.slots.now c.loop-index.self c.loop-index.slots c.notify_reader.new.self
       c.notify_reader.new.slots c.loop-index.index _ _ 16 c.loop-index-test.true c.len-index-end.ensures

@@ -1,6 +1,6 @@
 use Rattle.std.proofs.Common.{ℕ, ◌-◌, arith}
-use Rattle.dds_machine.specs.Noticing.{loss_raised, offered_raised, publication_raised}
-use Rattle.dds_machine.proofs.InTurn.{loss_told, offered_told, publication_told}
+use Rattle.dds_machine.specs.Noticing.{loss_raised, publication_raised}
+use Rattle.dds_machine.proofs.InTurn.{loss_told, publication_told}
 use Rattle.dds_core.specs.Kept.{PeerKept}
 use Rattle.dds_core.proofs.Notified.{end_found, tells_then}
 use Rattle.dds_core.proofs.WriterNotified.{writer_raised}
@@ -17,34 +17,21 @@ returns-clause-told g c = λ before marked.
     let low = c.requires.within.0 in
     let high = c.requires.within.1 in
     let same = c.tell_of_writer.ensures.writers in
-    let same2 = c.tell_of_writer-2.ensures.writers in
     let first =
     end_found (λ (k : PeerKept). k.writers) _ c.args.self.now n c.from-index.result c.index.result.now c.self.view_is
     low high number c.index.ensures in
     let second =
     end_found (λ (k : PeerKept). k.writers) _ c.tell_of_writer.new.self n c.from-index.result c.index-2.result.now
     c.self-2.view_is low (omega (arith, high, same)) number c.index-2.ensures in
-    let third =
-    end_found (λ (k : PeerKept). k.writers) _ c.tell_of_writer-2.new.self n c.from-index.result c.index-3.result.now
-    c.self-3.view_is low (omega (arith, high, same, same2)) number c.index-3.ensures in
     let one =
-    writer_raised N C B offered_raised c.offered_raised-unfit.result before c.args.mark.now c.args.self.now
-    c.args.slots.now n i c.index.result.now
-    c.tell_of_writer.new.self c.tell_of_writer.new.slots first.0 first.3 marked c.offered_raised-unfit.ensures
+    writer_raised N C B loss_raised c.loss_raised-lost.result before c.args.mark.now c.args.self.now c.args.slots.now n i
+    c.index.result.now
+    c.tell_of_writer.new.self c.tell_of_writer.new.slots first.0 first.3 marked c.loss_raised-lost.ensures
     c.tell_of_writer.ensures.told in
     let two =
-    writer_raised N C B loss_raised c.loss_raised-lost.result before c.args.mark.now
-    c.tell_of_writer.new.self c.tell_of_writer.new.slots n i c.index-2.result.now
-    c.tell_of_writer-2.new.self c.tell_of_writer-2.new.slots second.0 second.3 marked c.loss_raised-lost.ensures
-    c.tell_of_writer-2.ensures.told in
-    let three =
     writer_raised N C B publication_raised c.publication_raised-matched.result before c.args.mark.now
-    c.tell_of_writer-2.new.self c.tell_of_writer-2.new.slots n i c.index-3.result.now
-    c.tell_of_writer-3.new.self c.tell_of_writer-3.new.slots third.0 third.3 marked
-    c.publication_raised-matched.ensures c.tell_of_writer-3.ensures.told in
-    tells_then N C B (λ part. loss_told before n (offered_told before n part)) (publication_told before n)
-    c.args.self.now c.args.slots.now
-    c.tell_of_writer-2.new.self c.tell_of_writer-2.new.slots c.tell_of_writer-3.new.self c.tell_of_writer-3.new.slots
-    (tells_then N C B (offered_told before n) (loss_told before n) c.args.self.now c.args.slots.now
-    c.tell_of_writer.new.self c.tell_of_writer.new.slots c.tell_of_writer-2.new.self c.tell_of_writer-2.new.slots one
-    two) three
+    c.tell_of_writer.new.self c.tell_of_writer.new.slots n i c.index-2.result.now
+    c.tell_of_writer-2.new.self c.tell_of_writer-2.new.slots second.0 second.3 marked
+    c.publication_raised-matched.ensures c.tell_of_writer-2.ensures.told in
+    tells_then N C B (loss_told before n) (publication_told before n) c.args.self.now c.args.slots.now
+    c.tell_of_writer.new.self c.tell_of_writer.new.slots c.tell_of_writer-2.new.self c.tell_of_writer-2.new.slots one two

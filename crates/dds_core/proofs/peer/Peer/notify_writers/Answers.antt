@@ -24,7 +24,7 @@ pub loop-index-preserved : goal.loop-index-preserved
 loop-index-preserved g c = record {
   told = λ before marks.
       tells_marked g.L.Listener.notices g.L.Listener.capacity g.L.Listener.becomes c.args.marks.now.writers
-      (record { losses = 0; matched = 0; misfits = 0 })
+      (record { losses = 0; matched = 0 })
       (λ mark i. IsWriterMarkOf mark (own_writer before i)) (writer_told before)
       c.args.self.now c.args.slots.now c.loop-index.self c.loop-index.slots c.notify_writer.new.self
       c.notify_writer.new.slots c.loop-index.index _ _ 16 c.loop-index-test.true c.len-index-end.ensures

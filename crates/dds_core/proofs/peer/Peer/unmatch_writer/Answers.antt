@@ -5,7 +5,6 @@ use Rattle.dds_machine.specs.declared.call.Call.TheVariants as call
 use Rattle.dds_protocol.specs.declared.event.Event.TheVariants as event
 use Rattle.dds_ends.specs.declared.matching.WriterName.{WriterName}
 use Rattle.dds_core.specs.Kept.{PeerKept}
-use Rattle.dds_core.specs.Missing.{IsUnknownCause}
 use Rattle.dds_core.proofs.CallSteps.{Follows, follows_as, still_stands}
 use Rattle.dds_core.proofs.MatchedWriters.{met_again, no_reader_unmatched, no_writer_unmatched, row_again, unmatched_already, unmatched_past, unmatches_writer}
 use Rattle.dds_core.proofs.peer.Peer.unmatch_writer.Goals as goal
@@ -26,12 +25,10 @@ returns-in_default-writer_row_among-clause-step c = λ roster peer given.
     subst (λ (k : PeerKept). Follows k roster peer (event.Call (call.UnmatchWriter c.args.reader c.args.writer)) c.refused-in_default-writer_row_among.result)
     c.self.view_is
     (follows_as _ roster peer _ _ _ c.refused-in_default-writer_row_among.ensures
-    (no_writer_unmatched _ roster peer c.args.reader c.in-Some.index c.index.result.now c.args.writer c.unknown_writer_cause-code.result
+    (no_writer_unmatched _ roster peer c.args.reader c.in-Some.index c.index.result.now c.args.writer
     (still_stands c.self.view_is given) c.in-Some.ensures.index.0 (slice_get_read _ _ _ _ refl within c.index.ensures)
     (λ j n there. c.in_default-writer_row_among.ensures j n
-    (subst (λ (ns : List WriterName). slice_get ns j ≡ Some n) (sym c.writers.ensures) there))
-    (subst (λ (k : PeerKept). IsUnknownCause k c.in-Some.index c.args.writer c.unknown_writer_cause-code.result)
-    (sym c.self.view_is) c.unknown_writer_cause-code.ensures.cause)))
+    (subst (λ (ns : List WriterName). slice_get ns j ≡ Some n) (sym c.writers.ensures) there))))
 
 pub returns-then-not-is_attached-clause-step : goal.returns-then-not-is_attached-clause-step
 returns-then-not-is_attached-clause-step c = λ roster peer given.

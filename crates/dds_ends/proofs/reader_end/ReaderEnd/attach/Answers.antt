@@ -16,7 +16,6 @@ returns c =
       seen = c.self.inside.seen;
       matches = c.self.inside.matches;
       here = c.self.inside.here;
-      misfits = c.self.inside.misfits;
     } in
     let within : c.args.row < length kept.writers =
     subst (λ (k : ReaderKept). c.args.row < length k.writers) (sym c.self.view_is) c.requires in

@@ -15,7 +15,6 @@ returns-clause-past c = λ is.
       seen = c.self.inside.seen;
       matches = c.self.inside.matches;
       here = c.self.inside.here;
-      misfits = c.self.inside.misfits;
     } in
     subst (λ (k : ReaderKept). IsPastCounting k c.args.now) c.self.view_is
     (past_counting kept c.args.now (c.counts_deaths.ensures.past is))

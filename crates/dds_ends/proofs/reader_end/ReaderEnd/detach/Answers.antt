@@ -17,7 +17,6 @@ returns-in_err-leave-clause-past c =
       seen = c.self.inside.seen;
       matches = c.self.inside.matches;
       here = c.self.inside.here;
-      misfits = c.self.inside.misfits;
     } in
     so_on_error c.from_residual.result (IsPastParting c.args.self.now c.args.row c.args.now)
     (subst (λ (k : ReaderKept). IsPastParting k c.args.row c.args.now) c.self.view_is
@@ -35,7 +34,6 @@ returns-clause-ok c =
       seen = c.self.inside.seen;
       matches = c.self.inside.matches;
       here = c.self.inside.here;
-      misfits = c.self.inside.misfits;
     } in
     let within : c.args.row < length kept.writers =
     subst (λ (k : ReaderKept). c.args.row < length k.writers) (sym c.self.view_is) c.requires in

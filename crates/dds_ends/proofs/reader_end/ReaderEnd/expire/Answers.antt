@@ -16,7 +16,6 @@ returns c = record {
         seen = c.self.inside.seen;
         matches = c.self.inside.matches;
         here = c.self.inside.here;
-        misfits = c.self.inside.misfits;
       } in
       subst (λ (k : ReaderKept). Expires k c.args.now (record kept { store = c.expire.new.self })) c.self.view_is
       (expires kept c.args.now c.expire.new.self c.expire.ensures.qos c.expire.ensures.died);

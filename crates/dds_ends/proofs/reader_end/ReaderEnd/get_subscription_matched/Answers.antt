@@ -14,7 +14,6 @@ returns-clause-seen c =
       seen = c.self.inside.seen;
       matches = c.self.inside.matches;
       here = c.self.inside.here;
-      misfits = c.self.inside.misfits;
     } in
     subst (λ (k : ReaderKept). SeesMatches k (record kept { matches = c.see.new.self })) c.self.view_is
     (sees_kept kept c.see.new.self (λ m counts. c.see.ensures.seen m counts))

@@ -17,7 +17,6 @@ returns-clause-ok c =
       seen = c.self.inside.seen;
       matches = c.self.inside.matches;
       here = c.self.inside.here;
-      misfits = c.self.inside.misfits;
     } in
     let few : length kept.writers < max_known =
     subst (λ (k : ReaderKept). length k.writers < max_known) (sym c.self.view_is) c.requires.few in

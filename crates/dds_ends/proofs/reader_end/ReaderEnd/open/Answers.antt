@@ -5,11 +5,9 @@ use Rattle.std.specs.Int.{w32}
 use Rattle.std.proofs.lemmas.Int.{to_z-of_z}
 use Rattle.dds_base.specs.Checked.{limit_of}
 use Rattle.dds_base.specs.declared.qos.MatchedWriter.{MatchedWriter}
-use Rattle.dds_base.specs.declared.policies.Policies.{Policies}
-use Rattle.dds_machine.specs.Part.{no_misfits, opened_with}
+use Rattle.dds_machine.specs.Part.{opened_with}
 use Rattle.dds_ends.specs.declared.matching.WriterName.{WriterName}
 use Rattle.dds_ends.specs.MatchCounts.{CountsFor}
-use Rattle.dds_ends.specs.Misfits.{IsTold}
 use Rattle.dds_ends.proofs.ReaderEnds.{names_few, opens_reader, rows_fit, qos_as}
 use Rattle.dds_ends.proofs.Rows.{writers_of}
 use Rattle.dds_ends.proofs.reader_end.ReaderEnd.open.Goals as goal
@@ -63,6 +61,4 @@ returns c =
     ∙ qos_as c.args.config.now c.limit_of.result c.limit_of-2.result _ c.in_ok-names.field-0.qos.items (limits c).0
     (limits c).1 c.from_vec.ensures.elements) c.in-Ok-open.ensures.opening c.with_writers-matches.result c.len-here.result
     (subst (λ (ns : List WriterName). CountsFor c.with_writers-matches.result (opened_with (writers_of ns)))
-    c.as_slice.ensures.value c.with_writers-matches.ensures.opened) count c.none-misfits.result
-    (subst (λ (p : Policies). IsTold c.none-misfits.result p no_misfits) c.requested.ensures.requested
-    c.none-misfits.ensures.none)
+    c.as_slice.ensures.value c.with_writers-matches.ensures.opened) count

@@ -1,4 +1,4 @@
-use Rattle.dds_ends.proofs.SeenStatuses.{sees_data, sees_lost, sees_matches, sees_misfits, sees_turn}
+use Rattle.dds_ends.proofs.SeenStatuses.{sees_data, sees_lost, sees_matches, sees_turn}
 use Rattle.dds_ends.proofs.reader_end.ReaderEnd.see.Goals as goal
 
 pub returns-in-SampleLost-clause-sees : goal.returns-in-SampleLost-clause-sees
@@ -24,8 +24,3 @@ pub returns-in-SubscriptionMatched-clause-sees : goal.returns-in-SubscriptionMat
 returns-in-SubscriptionMatched-clause-sees c =
     sees_matches c.args.self.now c.get_subscription_matched.new.self c.args.status.now c.in-SubscriptionMatched.field-0
     c.in-SubscriptionMatched.is c.get_subscription_matched.ensures.seen
-
-pub returns-in-RequestedIncompatibleQos-clause-sees : goal.returns-in-RequestedIncompatibleQos-clause-sees
-returns-in-RequestedIncompatibleQos-clause-sees c =
-    sees_misfits c.args.self.now c.get_requested_incompatible_qos.new.self c.args.status.now
-    c.in-RequestedIncompatibleQos.field-0 c.in-RequestedIncompatibleQos.is c.get_requested_incompatible_qos.ensures.seen

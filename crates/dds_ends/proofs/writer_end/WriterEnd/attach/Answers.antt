@@ -47,7 +47,7 @@ returns-clause-ok c =
     let kept : WriterKept =
     kept_as c.self.inside.entity c.self.inside.autodispose c.self.inside.max_value c.self.inside.known.items
     c.self.inside.matched.items c.self.inside.destinations.items c.self.inside.readers.items c.self.inside.counts.items
-    c.self.inside.matches c.self.inside.writer c.self.inside.misfits in
+    c.self.inside.matches c.self.inside.writer in
     let may : MayMeet kept known = subst (λ (k : WriterKept). MayMeet k known) (sym c.self.view_is) c.requires.may in
     let now : c.add_known.new.known.items ≡ with_known c.self.inside.known.items known.name known.is_reliable =
     c.add_known.ensures
@@ -55,7 +55,7 @@ returns-clause-ok c =
     let then : WriterKept =
     kept_as c.self.inside.entity c.self.inside.autodispose c.self.inside.max_value c.add_known.new.known.items
     c.self.inside.matched.items c.self.inside.destinations.items c.self.inside.readers.items c.self.inside.counts.items
-    c.self.inside.matches c.self.inside.writer c.self.inside.misfits in
+    c.self.inside.matches c.self.inside.writer in
     let same : then ≡ learned c.args.self.now known =
     ap (λ (ks : List TopicName). record kept { known = ks }) now
     ∙ ap (λ (k : WriterKept). learned k known) c.self.view_is in

@@ -1,29 +1,22 @@
-use Rattle.std.proofs.Common.{sym, ◌∙◌}
-use Rattle.dds_base.specs.declared.code.Code.TheVariants.{PreconditionNotMet}
+use Rattle.std.proofs.Common.{true, false, Some, refl, sym, ◌∙◌}
+use Rattle.dds_base.specs.declared.code.Code.TheVariants.{BadParameter, PreconditionNotMet}
 use Rattle.dds_ends.specs.Coming.{joining_refusal}
 use Rattle.dds_ends.proofs.Meetings.{joins_known, may_join}
-use Rattle.dds_ends.proofs.Refusing.{for_cause, joining_free, joining_matched, joining_unfit, joining_unknown, memory_refused}
+use Rattle.dds_ends.proofs.Refusing.{for_cause, joining_by, joining_unknown, memory_refused}
 use Rattle.dds_ends.proofs.Results.{on_ok, ok_from}
 use Rattle.dds_ends.proofs.writer_end.WriterEnd.join.Goals as goal
 
 pub returns-in_default-clause-refused : goal.returns-in_default-clause-refused
 returns-in_default-clause-refused c = λ w answered s.
-    for_cause (joining_refusal w c.args.reader) c.unknown_cause.result
-    (joining_unknown c.args.self.now c.args.reader c.unknown_cause.result (sym c.knows.ensures ∙ c.in_default.is)
-    c.unknown_cause.ensures.cause w answered s)
+    for_cause (joining_refusal w c.args.reader) BadParameter
+    (joining_unknown c.args.self.now c.args.self.now c.args.reader refl
+    (sym c.knows.ensures ∙ c.in_default.is) w answered s)
 
 pub returns-then-is_matched-clause-refused : goal.returns-then-is_matched-clause-refused
 returns-then-is_matched-clause-refused c = λ w answered s.
     for_cause (joining_refusal w c.args.reader) PreconditionNotMet
-    (joining_matched c.args.self.now c.args.reader c.in-Some.known (sym c.knows.ensures ∙ c.in-Some.is)
-    (sym c.is_matched.ensures ∙ c.if-is_matched.true) w answered s)
-
-pub returns-then-is_misfit-clause-refused : goal.returns-then-is_misfit-clause-refused
-returns-then-is_misfit-clause-refused c = λ w answered s.
-    for_cause (joining_refusal w c.args.reader) PreconditionNotMet
-    (joining_unfit c.args.self.now c.args.reader c.in-Some.known (sym c.knows.ensures ∙ c.in-Some.is)
-    (sym c.is_matched.ensures ∙ c.if-is_matched.false)
-    (λ x told t. sym (c.is_misfit.ensures x told t) ∙ c.if-is_misfit.true) w answered s)
+    (joining_by c.args.self.now c.args.self.now c.args.reader (Some c.in-Some.known) true refl
+    (sym c.knows.ensures ∙ c.in-Some.is) (sym c.is_matched.ensures ∙ c.if-is_matched.true) w answered s)
 
 pub attach-requires : goal.attach-requires
 attach-requires c =
@@ -42,13 +35,11 @@ returns-clause-ok c =
 pub returns-clause-accepted : goal.returns-clause-accepted
 returns-clause-accepted c =
     on_ok c.attach.result
-    (joining_free c.args.self.now c.args.reader c.in-Some.known (sym c.knows.ensures ∙ c.in-Some.is)
-    (sym c.is_matched.ensures ∙ c.if-is_matched.false)
-    (λ x told t. sym (c.is_misfit.ensures x told t) ∙ c.if-is_misfit.false))
+    (joining_by c.args.self.now c.args.self.now c.args.reader (Some c.in-Some.known) false refl
+    (sym c.knows.ensures ∙ c.in-Some.is) (sym c.is_matched.ensures ∙ c.if-is_matched.false))
 
 pub returns-clause-refused : goal.returns-clause-refused
 returns-clause-refused c =
     memory_refused joining_refusal c.attach.result c.args.self.now c.args.reader
-    (joining_free c.args.self.now c.args.reader c.in-Some.known (sym c.knows.ensures ∙ c.in-Some.is)
-    (sym c.is_matched.ensures ∙ c.if-is_matched.false)
-    (λ x told t. sym (c.is_misfit.ensures x told t) ∙ c.if-is_misfit.false)) c.attach.ensures.memory
+    (joining_by c.args.self.now c.args.self.now c.args.reader (Some c.in-Some.known) false refl
+    (sym c.knows.ensures ∙ c.in-Some.is) (sym c.is_matched.ensures ∙ c.if-is_matched.false)) c.attach.ensures.memory

@@ -1,11 +1,11 @@
-use Rattle.std.proofs.Common.{◌≡◌, ◌≤◌, true, false, List, None, length, ap, sym, subst, ◌∙◌, rules}
+use Rattle.std.proofs.Common.{◌≡◌, ◌≤◌, true, false, List, Some, length, refl, ap, sym, subst, ◌∙◌, rules}
 use Rattle.dds_ends.specs.declared.matching.ReaderName.{ReaderName}
 use Rattle.dds_ends.specs.Beating.{first_peers}
 use Rattle.dds_ends.specs.Coming.{ForgetsRow}
 use Rattle.dds_ends.specs.Kept.{WriterKept}
-use Rattle.dds_ends.specs.MatchedEnds.{AreAmong, is_named, known_as}
+use Rattle.dds_ends.specs.MatchedEnds.{is_named}
 use Rattle.dds_ends.proofs.Leaves.{leaves_by, no_more_peers, whole_without}
-use Rattle.dds_ends.proofs.Refusing.{leaving_by, leaving_unknown, unknown_unmatched}
+use Rattle.dds_ends.proofs.Refusing.{leaving_by, leaving_unknown}
 use Rattle.dds_ends.proofs.WriterEnds.{kept_as}
 use Rattle.dds_ends.proofs.writer_end.WriterEnd.leave.Goals as goal
 
@@ -31,7 +31,7 @@ returns-clause-ok c =
     let kept : WriterKept =
     kept_as c.self.inside.entity c.self.inside.autodispose c.self.inside.max_value c.self.inside.known.items
     c.self.inside.matched.items c.self.inside.destinations.items c.self.inside.readers.items c.self.inside.counts.items
-    c.self.inside.matches c.self.inside.writer c.self.inside.misfits in
+    c.self.inside.matches c.self.inside.writer in
     leaves_by old kept c.args.reader c.remove_name.new.names.items c.set_peers.new.peers.items c.end.new.self
     (subst (λ (k : WriterKept). ForgetsRow old c.args.reader k) (sym c.self.view_is) c.forget_row.ensures)
     c.remove_name.ensures
@@ -39,20 +39,16 @@ returns-clause-ok c =
 
 pub returns-in_default-clause-refused : goal.returns-in_default-clause-refused
 returns-in_default-clause-refused c =
-    let none : known_as c.args.self.now.known c.args.reader ≡ None = sym c.knows.ensures ∙ c.in_default.is in
-    leaving_unknown c.args.self.now c.args.reader c.unknown_cause.result none
-    (unknown_unmatched c.args.self.now.known c.args.self.now.matched c.args.reader
-    (subst (λ (k : WriterKept). AreAmong k.known k.matched) c.self.view_is c.self.invariant.matched_are) none)
-    c.unknown_cause.ensures.cause
+    leaving_unknown c.args.self.now c.args.self.now c.args.reader refl (sym c.knows.ensures ∙ c.in_default.is)
 
 pub returns-then-not-is_matched-clause-refused : goal.returns-then-not-is_matched-clause-refused
 returns-then-not-is_matched-clause-refused c =
     let none : c.is_matched.result ≡ false = search rules in
-    leaving_by c.args.self.now c.args.reader c.in-Some.field-0 false
+    leaving_by c.args.self.now c.args.self.now c.args.reader (Some c.in-Some.field-0) false refl
     (sym c.knows.ensures ∙ c.in-Some.is) (sym c.is_matched.ensures ∙ none)
 
 pub returns-clause-accepted : goal.returns-clause-accepted
 returns-clause-accepted c =
     let some : c.is_matched.result ≡ true = search rules in
-    leaving_by c.args.self.now c.args.reader c.in-Some.field-0 true
+    leaving_by c.args.self.now c.args.self.now c.args.reader (Some c.in-Some.field-0) true refl
     (sym c.knows.ensures ∙ c.in-Some.is) (sym c.is_matched.ensures ∙ some)

@@ -5,12 +5,10 @@ use Rattle.std.specs.Int.{w32}
 use Rattle.std.proofs.lemmas.Int.{to_z-of_z}
 use Rattle.std.proofs.lemmas.List.{length-map}
 use Rattle.dds_base.specs.Checked.{limit_of}
-use Rattle.dds_base.specs.declared.policies.Policies.{Policies}
-use Rattle.dds_machine.specs.Part.{no_misfits, opened_with}
+use Rattle.dds_machine.specs.Part.{opened_with}
 use Rattle.dds_ends.specs.declared.matching.ReaderName.{ReaderName}
 use Rattle.dds_ends.specs.declared.matching.TopicName.{TopicName}
 use Rattle.dds_ends.specs.MatchCounts.{CountsFor}
-use Rattle.dds_ends.specs.Misfits.{IsTold}
 use Rattle.dds_ends.specs.MatchedEnds.{first_count, names_of, readers_of}
 use Rattle.dds_ends.proofs.WriterEnds.{opens_writer, whole_opened}
 use Rattle.dds_ends.proofs.writer_end.WriterEnd.open.Goals as goal
@@ -40,13 +38,11 @@ returns c =
     opens_writer c.args.first c.args.peers.now c.args.config.now c.in_ok-known.known.items c.in_ok-matched.matched.items
     c.in_ok-destinations.destinations.items c.in_ok-readers.readers.items c.in_ok-counts.counts.items
     c.with_readers-matches.result c.limit_of-limit.result c.carried_strength-strength.result c.in-Ok.writer
-    c.none-misfits.result c.len-reliable.result counted c.in_ok-known.ensures.names named
+    c.len-reliable.result counted c.in_ok-known.ensures.names named
     (subst (λ (ns : List ReaderName). CountsFor c.with_readers-matches.result (opened_with (readers_of ns)))
     c.as_slice-3.ensures.value c.with_readers-matches.ensures.opened)
     first c.in_ok-destinations.ensures.names c.in_ok-readers.ensures.names limit
     c.carried_strength-strength.ensures.carried c.in-Ok.ensures.ok
-    (subst (λ (p : Policies). IsTold c.none-misfits.result p no_misfits) c.offered.ensures.offered
-    c.none-misfits.ensures.none)
 
 pub invariant_of-result : goal.invariant_of-result
 invariant_of-result c =

@@ -1,5 +1,5 @@
 use Rattle.dds_domain.proofs.Pieces.{has_it, has_none, none_at_first, none_more}
-use Rattle.dds_domain.proofs.fragmented.has_fragment_in.Goals as goal
+use Rattle.dds_domain.proofs.asking.has_fragment_in.Goals as goal
 
 pub loop-frame-init : goal.loop-frame-init
 loop-frame-init c = none_at_first c.args.body.now

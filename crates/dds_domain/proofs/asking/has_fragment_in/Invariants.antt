@@ -1,6 +1,6 @@
 use Rattle.std.proofs.Common.{length}
 use Rattle.dds_domain.proofs.Pieces.{HasNone}
-use Rattle.dds_domain.proofs.fragmented.has_fragment_in.Given as goal
+use Rattle.dds_domain.proofs.asking.has_fragment_in.Given as goal
 
 -- what was gone over has none
 abbrev pub invariant-loop-frame : goal.invariant-loop-frame
