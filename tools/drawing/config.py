@@ -124,6 +124,8 @@ class Setup:
 
     def take(self, words: list[str]) -> bool:
         """Whether a line belongs to a set-up; it is then taken up. In a script a peer and an end have no octets."""
+        if words == ["peer", "later"]:
+            raise Fault("draw: a network to which peers come later can't be drawn")
         if words == ["peer"]:
             self.prefixes.append((len(self.prefixes) + 1).to_bytes(12, "big"))
         elif words[0] == "peer" and len(words) == 2 and PREFIX.fullmatch(words[1]):
